@@ -18,12 +18,12 @@ use Rattle.board.specs.declared.megacell.Megacell.{Megacell}
 use Rattle.board.specs.declared.place.Place.{Place}
 use Rattle.board.specs.Headings.{left, right, opposite, sameHeading, headingNumber}
 use Rattle.board.specs.Places.{sameMegacell, samePlace, megacellOf, placedBy, placed, celledBy, celled}
-use Rattle.board.specs.Corners.{exitOf, cornerBy, cornerOf, exit}
+use Rattle.board.specs.Corners.{exitOf, cornerBy, cornerOf, exit, subcell}
 use Rattle.board.specs.Steps.{ahead, beside, orStay, step}
 use Rattle.board.specs.Counting.{bit}
 
-pub mega-path : (m n : Megacell) → m .row ≡ n .row → m .column ≡ n .column → m ≡ n
-mega-path m n e f =
+pub megacell-path : (m n : Megacell) → m .row ≡ n .row → m .column ≡ n .column → m ≡ n
+megacell-path m n e f =
     λ i. record {
       row = e i;
       column = f i;
@@ -64,7 +64,7 @@ unfolding placed
 placed-some r c p e = placedBy-some r c p (ltb r 64) (ltb c 64) (ltb→lt r 64) (ltb→lt c 64) e
 
 celledBy-in : (r c : ℕ) (m : Megacell) (a b : Bool) (h : T a → r < 32) (k : T b → c < 32) → r ≡ m .row → c ≡ m .column → T a → T b → celledBy r c a b h k ≡ Some m
-celledBy-in r c m true true h k e f s t = ap Some (mega-path _ m e f)
+celledBy-in r c m true true h k e f s t = ap Some (megacell-path _ m e f)
 celledBy-in r c m true false h k e f s t = elim t [ ]
 celledBy-in r c m false b h k e f s t = elim s [ ]
 
@@ -86,7 +86,7 @@ celled-some r c m e = celledBy-some r c m (ltb r 32) (ltb c 32) (ltb→lt r 32) 
 
 pub sameMegacell-true : (m n : Megacell) → sameMegacell m n ≡ true → m ≡ n
 unfolding sameMegacell
-sameMegacell-true m n e = let k = and-parts (eqb (m .row) (n .row)) (eqb (m .column) (n .column)) e in mega-path m n (eqb-true _ _ (k .0)) (eqb-true _ _ (k .1))
+sameMegacell-true m n e = let k = and-parts (eqb (m .row) (n .row)) (eqb (m .column) (n .column)) e in megacell-path m n (eqb-true _ _ (k .0)) (eqb-true _ _ (k .1))
 
 pub sameMegacell-refl : (m : Megacell) → sameMegacell m m ≡ true
 unfolding sameMegacell
@@ -100,25 +100,12 @@ pub samePlace-refl : (p : Place) → samePlace p p ≡ true
 unfolding samePlace
 samePlace-refl p = and-from _ _ (eq-eqb (p .row) (p .row) refl) (eq-eqb (p .column) (p .column) refl)
 
-pub double : (n : ℕ) → n < 32 → 2 * n < 64
-double n h = omega arith
-
-pub double-more : (n : ℕ) → n < 32 → 2 * n + 1 < 64
-double-more n h = omega arith
-
--- the subcell of a megacell with a given exit
-unfoldable pub placeOf : Megacell → Heading → Place
-placeOf m North = record { row = 2 * m .row; column = 2 * m .column + 1; rows = double _ (m .rows); columns = double-more _ (m .columns) }
-placeOf m East = record { row = 2 * m .row + 1; column = 2 * m .column + 1; rows = double-more _ (m .rows); columns = double-more _ (m .columns) }
-placeOf m South = record { row = 2 * m .row + 1; column = 2 * m .column; rows = double-more _ (m .rows); columns = double _ (m .columns) }
-placeOf m West = record { row = 2 * m .row; column = 2 * m .column; rows = double _ (m .rows); columns = double _ (m .columns) }
-
-pub mega-placeOf : (m : Megacell) (h : Heading) → megacellOf (placeOf m h) ≡ m
-unfolding placeOf megacellOf
-mega-placeOf m North = mega-path _ m (omega arith) (omega arith)
-mega-placeOf m East = mega-path _ m (omega arith) (omega arith)
-mega-placeOf m South = mega-path _ m (omega arith) (omega arith)
-mega-placeOf m West = mega-path _ m (omega arith) (omega arith)
+pub megacell-subcell : (m : Megacell) (h : Heading) → megacellOf (subcell m h) ≡ m
+unfolding subcell megacellOf
+megacell-subcell m North = megacell-path _ m (omega arith) (omega arith)
+megacell-subcell m East = megacell-path _ m (omega arith) (omega arith)
+megacell-subcell m South = megacell-path _ m (omega arith) (omega arith)
+megacell-subcell m West = megacell-path _ m (omega arith) (omega arith)
 
 even : (n k : ℕ) → n ≡ 2 * k → eqb (n % 2) 0 ≡ true
 even n k e = eq-eqb (n % 2) 0 (omega arith)
@@ -126,18 +113,18 @@ even n k e = eq-eqb (n % 2) 0 (omega arith)
 odd : (n k : ℕ) → n ≡ 2 * k + 1 → eqb (n % 2) 0 ≡ false
 odd n k e = grind (arith, tells)
 
-pub exit-placeOf : (m : Megacell) (h : Heading) → exit (placeOf m h) ≡ h
-unfolding placeOf exit exitOf cornerBy cornerOf
-exit-placeOf m North = rw (even (2 * m .row) (m .row) refl, odd (2 * m .column + 1) (m .column) refl)
-exit-placeOf m East = rw (odd (2 * m .row + 1) (m .row) refl, odd (2 * m .column + 1) (m .column) refl)
-exit-placeOf m South = rw (odd (2 * m .row + 1) (m .row) refl, even (2 * m .column) (m .column) refl)
-exit-placeOf m West = rw (even (2 * m .row) (m .row) refl, even (2 * m .column) (m .column) refl)
+pub exit-subcell : (m : Megacell) (h : Heading) → exit (subcell m h) ≡ h
+unfolding subcell exit exitOf cornerBy cornerOf
+exit-subcell m North = rw (even (2 * m .row) (m .row) refl, odd (2 * m .column + 1) (m .column) refl)
+exit-subcell m East = rw (odd (2 * m .row + 1) (m .row) refl, odd (2 * m .column + 1) (m .column) refl)
+exit-subcell m South = rw (odd (2 * m .row + 1) (m .row) refl, even (2 * m .column) (m .column) refl)
+exit-subcell m West = rw (even (2 * m .row) (m .row) refl, even (2 * m .column) (m .column) refl)
 
-pub placeOf-own : (p : Place) → placeOf (megacellOf p) (exit p) ≡ p
-unfolding placeOf exit exitOf cornerBy cornerOf megacellOf
-placeOf-own p = go (eqb (p .row % 2) 0) (eqb (p .column % 2) 0) refl refl
+pub subcell-own : (p : Place) → subcell (megacellOf p) (exit p) ≡ p
+unfolding subcell exit exitOf cornerBy cornerOf megacellOf
+subcell-own p = go (eqb (p .row % 2) 0) (eqb (p .column % 2) 0) refl refl
   where
-    go : (a b : Bool) → eqb (p .row % 2) 0 ≡ a → eqb (p .column % 2) 0 ≡ b → placeOf (megacellOf p) (exitOf (cornerBy a b)) ≡ p
+    go : (a b : Bool) → eqb (p .row % 2) 0 ≡ a → eqb (p .column % 2) 0 ≡ b → subcell (megacellOf p) (exitOf (cornerBy a b)) ≡ p
     go true true e f = place-path _ p (omega (arith, eqb-true _ _ e)) (omega (arith, eqb-true _ _ f))
     go true false e f = place-path _ p (omega (arith, eqb-true _ _ e)) (omega (arith, eqb-false _ _ f))
     go false false e f = place-path _ p (omega (arith, eqb-false _ _ e)) (omega (arith, eqb-false _ _ f))
@@ -170,15 +157,15 @@ step-ahead h p q e = e ∙ ap Some (sym (step-is h p q e))
 steps : (h : Heading) (p q : Place) → Steps h p q → step h p ≡ q
 steps h p q k = step-is h p q (ahead-is h p q k)
 
-turn-steps : (m : Megacell) (h : Heading) → Steps (left h) (placeOf m h) (placeOf m (left h))
-unfolding left placeOf
+turn-steps : (m : Megacell) (h : Heading) → Steps (left h) (subcell m h) (subcell m (left h))
+unfolding left subcell
 turn-steps m North = omega arith
 turn-steps m East = omega arith
 turn-steps m South = omega arith
 turn-steps m West = omega arith
 
-step-turn : (m : Megacell) (h : Heading) → step (left h) (placeOf m h) ≡ placeOf m (left h)
-step-turn m h = steps (left h) (placeOf m h) (placeOf m (left h)) (turn-steps m h)
+step-turn : (m : Megacell) (h : Heading) → step (left h) (subcell m h) ≡ subcell m (left h)
+step-turn m h = steps (left h) (subcell m h) (subcell m (left h)) (turn-steps m h)
 
 -- what a heading does to a megacell's row and column
 abbrev Shift : Heading → Megacell → Megacell → Type 0
@@ -236,32 +223,32 @@ shift-inj West West m n a b = refl
 pub beside-inj : (h k : Heading) (m n : Megacell) → beside m h ≡ Some n → beside m k ≡ Some n → h ≡ k
 beside-inj h k m n e f = shift-inj h k m n (shift h m n e) (shift k m n f)
 
-cross-steps : (h : Heading) (m n : Megacell) → Shift h m n → Steps h (placeOf m h) (placeOf n (right h))
-unfolding placeOf right
+cross-steps : (h : Heading) (m n : Megacell) → Shift h m n → Steps h (subcell m h) (subcell n (right h))
+unfolding subcell right
 cross-steps North m n k = omega arith
 cross-steps East m n k = omega arith
 cross-steps South m n k = omega arith
 cross-steps West m n k = omega arith
 
-cross-shift : (h : Heading) (m n : Megacell) → Shift h m n → step h (placeOf m h) ≡ placeOf n (right h)
-cross-shift h m n k = steps h (placeOf m h) (placeOf n (right h)) (cross-steps h m n k)
+cross-shift : (h : Heading) (m n : Megacell) → Shift h m n → step h (subcell m h) ≡ subcell n (right h)
+cross-shift h m n k = steps h (subcell m h) (subcell n (right h)) (cross-steps h m n k)
 
 -- a turn, and a cross to a megacell that is there, stay on the board
-pub turn-ahead : (p : Place) → ahead p (left (exit p)) ≡ Some (placeOf (megacellOf p) (left (exit p)))
+pub turn-ahead : (p : Place) → ahead p (left (exit p)) ≡ Some (subcell (megacellOf p) (left (exit p)))
 turn-ahead p =
-    let o = placeOf-own p in
+    let o = subcell-own p in
     ap (λ (q : Place). ahead q (left (exit p))) (sym o) ∙ ahead-is (left (exit p)) _ _ (turn-steps (megacellOf p) (exit p))
 
-pub cross-ahead : (p : Place) (n : Megacell) → beside (megacellOf p) (exit p) ≡ Some n → ahead p (exit p) ≡ Some (placeOf n (right (exit p)))
+pub cross-ahead : (p : Place) (n : Megacell) → beside (megacellOf p) (exit p) ≡ Some n → ahead p (exit p) ≡ Some (subcell n (right (exit p)))
 cross-ahead p n e =
-    let o = placeOf-own p in
+    let o = subcell-own p in
     ap (λ (q : Place). ahead q (exit p)) (sym o) ∙ ahead-is (exit p) _ _ (cross-steps (exit p) (megacellOf p) n (shift (exit p) (megacellOf p) n e))
 
-pub turned : (p : Place) → step (left (exit p)) p ≡ placeOf (megacellOf p) (left (exit p))
-turned p = ap (step (left (exit p))) (sym (placeOf-own p)) ∙ step-turn (megacellOf p) (exit p)
+pub turned : (p : Place) → step (left (exit p)) p ≡ subcell (megacellOf p) (left (exit p))
+turned p = ap (step (left (exit p))) (sym (subcell-own p)) ∙ step-turn (megacellOf p) (exit p)
 
-pub crossed : (p : Place) (n : Megacell) → beside (megacellOf p) (exit p) ≡ Some n → step (exit p) p ≡ placeOf n (right (exit p))
-crossed p n e = ap (step (exit p)) (sym (placeOf-own p)) ∙ cross-shift (exit p) (megacellOf p) n (shift (exit p) (megacellOf p) n e)
+pub crossed : (p : Place) (n : Megacell) → beside (megacellOf p) (exit p) ≡ Some n → step (exit p) p ≡ subcell n (right (exit p))
+crossed p n e = ap (step (exit p)) (sym (subcell-own p)) ∙ cross-shift (exit p) (megacellOf p) n (shift (exit p) (megacellOf p) n e)
 
 pub sameHeading-true : (h k : Heading) → sameHeading h k ≡ true → h ≡ k
 unfolding sameHeading headingNumber
@@ -294,16 +281,16 @@ bools true b f g = sym (f refl)
 bools false true f g = g refl
 bools false false f g = refl
 
-pub same-split : (a : Place) (m : Megacell) (h : Heading) → samePlace a (placeOf m h) ≡ (sameMegacell (megacellOf a) m && sameHeading (exit a) h)
+pub same-split : (a : Place) (m : Megacell) (h : Heading) → samePlace a (subcell m h) ≡ (sameMegacell (megacellOf a) m && sameHeading (exit a) h)
 same-split a m h = bools _ _
-    (λ e. let q = samePlace-true a (placeOf m h) e in
-    and-from _ _ (ap (λ (x : Place). sameMegacell (megacellOf x) m) q ∙ ap (λ (x : Megacell). sameMegacell x m) (mega-placeOf m h) ∙ sameMegacell-refl m)
-    (ap (λ (x : Place). sameHeading (exit x) h) q ∙ ap (λ (x : Heading). sameHeading x h) (exit-placeOf m h) ∙ sameHeading-refl h))
+    (λ e. let q = samePlace-true a (subcell m h) e in
+    and-from _ _ (ap (λ (x : Place). sameMegacell (megacellOf x) m) q ∙ ap (λ (x : Megacell). sameMegacell x m) (megacell-subcell m h) ∙ sameMegacell-refl m)
+    (ap (λ (x : Place). sameHeading (exit x) h) q ∙ ap (λ (x : Heading). sameHeading x h) (exit-subcell m h) ∙ sameHeading-refl h))
     (λ e. let k = and-parts _ _ e in
     let u = sameMegacell-true (megacellOf a) m (k .0) in
     let v = sameHeading-true (exit a) h (k .1) in
-    let w = placeOf-own a in
-    let q : a ≡ placeOf m h = cc in
+    let w = subcell-own a in
+    let q : a ≡ subcell m h = cc in
     ap (samePlace a) (sym q) ∙ samePlace-refl a)
 
 four : (b : Bool) (h e : Heading) → bit (b && sameHeading h (right e)) + (bit (b && sameHeading h e) + (bit (b && sameHeading h (left e)) + (bit (b && sameHeading h (opposite e)) + 0))) ≡ bit b
@@ -328,5 +315,5 @@ four true West West = refl
 
 -- of the four subcells of a megacell, one is a, if a lies in it
 pub four-places : (a : Place) (m : Megacell) (e : Heading) →
-    bit (samePlace a (placeOf m (right e))) + (bit (samePlace a (placeOf m e)) + (bit (samePlace a (placeOf m (left e))) + (bit (samePlace a (placeOf m (opposite e))) + 0))) ≡ bit (sameMegacell (megacellOf a) m)
+    bit (samePlace a (subcell m (right e))) + (bit (samePlace a (subcell m e)) + (bit (samePlace a (subcell m (left e))) + (bit (samePlace a (subcell m (opposite e))) + 0))) ≡ bit (sameMegacell (megacellOf a) m)
 four-places a m e = simp same-split (four (sameMegacell (megacellOf a) m) (exit a) e)
