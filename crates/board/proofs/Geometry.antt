@@ -168,7 +168,7 @@ step-turn : (m : Megacell) (h : Heading) → step (left h) (subcell m h) ≡ sub
 step-turn m h = steps (left h) (subcell m h) (subcell m (left h)) (turn-steps m h)
 
 -- what a heading does to a megacell's row and column
-abbrev Shift : Heading → Megacell → Megacell → Type 0
+abbrev pub Shift : Heading → Megacell → Megacell → Type 0
 Shift North m n = (n .row + 1 ≡ m .row) × (n .column ≡ m .column)
 Shift East m n = (n .row ≡ m .row) × (n .column ≡ m .column + 1)
 Shift South m n = (n .row ≡ m .row + 1) × (n .column ≡ m .column)
@@ -185,7 +185,7 @@ shift East m n e = let w = celled-some _ _ n e in omega arith
 shift South m n e = let w = celled-some _ _ n e in omega arith
 shift West m n e = let k = unless _ _ n e in let w = celled-some _ _ n (k .1) in let z = eqb-false _ _ (k .0) in omega arith
 
-unshift : (h : Heading) (m n : Megacell) → Shift h m n → beside m h ≡ Some n
+pub unshift : (h : Heading) (m n : Megacell) → Shift h m n → beside m h ≡ Some n
 unfolding beside
 unshift North m n k = rw (not-zero (m .row) (n .row) (k .0)) (celled-at _ _ n (omega arith) (omega arith))
 unshift East m n k = celled-at _ _ n (omega arith) (omega arith)

@@ -1,0 +1,4 @@
+pub mod Repeating
+pub mod Placing
+pub mod Mirroring
+pub mod Quartering
