@@ -36,13 +36,13 @@ placed-out r c (inr e) = placedBy-out r c (ltb r 64) _ (ltb→lt r 64) (ltb→lt
 
 placed-there : (r c : ℕ) → placed r c ≡ None → (64 ≤ r) ⊎ (64 ≤ c)
 placed-there r c e =
-    elim (cases-lt r 64)
-    [ inl h ↦
-      elim (cases-lt c 64)
-      [ inl k ↦ absurd (not-both (placed r c) _ (placed-at r c (record { row = r; column = c; rows = h; columns = k }) refl refl) e)
-      | inr k ↦ inr k
-      ]
-    | inr h ↦ inl h
+    elim (cases-lt r 64) [
+      | inl h ↦
+          elim (cases-lt c 64) [
+            | inl k ↦ absurd (not-both (placed r c) _ (placed-at r c (record { row = r; column = c; rows = h; columns = k }) refl refl) e)
+            | inr k ↦ inr k
+          ]
+      | inr h ↦ inl h
     ]
 
 celledBy-out : (r c : ℕ) (a b : Bool) (h : T a → r < 32) (k : T b → c < 32) → (a ≡ false) ⊎ (b ≡ false) → celledBy r c a b h k ≡ None
@@ -58,13 +58,13 @@ celled-out r c (inr e) = celledBy-out r c (ltb r 32) _ (ltb→lt r 32) (ltb→lt
 
 celled-there : (r c : ℕ) → celled r c ≡ None → (32 ≤ r) ⊎ (32 ≤ c)
 celled-there r c e =
-    elim (cases-lt r 32)
-    [ inl h ↦
-      elim (cases-lt c 32)
-      [ inl k ↦ absurd (not-both (celled r c) _ (celled-at r c (record { row = r; column = c; rows = h; columns = k }) refl refl) e)
-      | inr k ↦ inr k
-      ]
-    | inr h ↦ inl h
+    elim (cases-lt r 32) [
+      | inl h ↦
+          elim (cases-lt c 32) [
+            | inl k ↦ absurd (not-both (celled r c) _ (celled-at r c (record { row = r; column = c; rows = h; columns = k }) refl refl) e)
+            | inr k ↦ inr k
+          ]
+      | inr h ↦ inl h
     ]
 
 -- the place is the last of its row or column at a heading, and the megacell of its
@@ -92,9 +92,9 @@ zero-none n o e = ap (λ b. cond b None o) (eq-eqb n 0 e)
 
 above-zero : {A : Type 0} (n : ℕ) (o : Option A) (y : A) → cond (eqb n 0) None o ≡ Some y → (0 < n) × (o ≡ Some y)
 above-zero n o y e =
-    elim (cases-eq n 0)
-    [ inl z ↦ absurd (not-both _ y e (zero-none n o z))
-    | inr z ↦ (omega arith, sym (ap (λ b. cond b None o) (ne-eqb n 0 z)) ∙ e)
+    elim (cases-eq n 0) [
+      | inl z ↦ absurd (not-both _ y e (zero-none n o z))
+      | inr z ↦ (omega arith, sym (ap (λ b. cond b None o) (ne-eqb n 0 z)) ∙ e)
     ]
 
 pub none-edge : (h : Heading) (p : Place) → ahead p h ≡ None → Edge h p

@@ -1,1 +1,4 @@
 pub mod Frames
+pub mod Skipped
+pub mod Numbered
+pub mod Known

@@ -6,8 +6,12 @@ ghost use Rattle.board.specs.declared.place.Place.{Place};
 ghost use Rattle.board.specs.Places.{megacellOf};
 ghost use Rattle.board.specs.Steps.{ahead};
 
+pub mod fault;
+pub mod known;
 pub mod mirror;
+pub mod numbered;
 pub mod pair;
+pub mod skippable;
 pub mod turn;
 
 use board::heading::Heading;
