@@ -1,4 +1,3 @@
 pub mod Frames
 pub mod Skipped
 pub mod Numbered
-pub mod Known

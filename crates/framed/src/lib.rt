@@ -7,28 +7,11 @@ use frame::Frame;
 use rover::fault::RoverFault;
 use rover::meaning::Rover;
 
-/// A rover and a frame through which it is seen.
+/// The rover below, and the frame through which it is seen.
 #[derive(Drop)]
 pub struct Framed<R: Rover, F: Frame> {
-    below: R,
-    frame: F,
-}
-
-impl<R: Rover, F: Frame> Framed<R, F> {
-    /// The rover below, seen through the frame.
-    pub fn new(below: R, frame: F) -> Framed<R, F>
-        ensures { λ r. ⌜ (r .below ≡ below) × (r .frame ≡ frame) ⌝ }
-    {
-        Framed { below, frame }
-    }
-
-    /// The rover below and the frame, apart again.
-    pub fn apart(self) -> (R, F)
-        ensures { λ r. ⌜ (r .0 ≡ self .below) × (r .1 ≡ self .frame) ⌝ }
-    {
-        let Framed { below, frame } = self;
-        (below, frame)
-    }
+    pub below: R,
+    pub frame: F,
 }
 
 /// Its place is where the frame takes the place below; floor and field go along, and a heading given to it goes

@@ -1,10 +1,9 @@
 ghost use mathlib.Core.Path.{_≡_};
 ghost use Prim.Native.Nat.{_<_};
-ghost use Rattle.board.specs.Places.{celled, megacellOf, numberOf, sameMegacell};
+ghost use Rattle.board.specs.Places.{celled, numberOf, sameMegacell};
 ghost use Rattle.board.specs.Steps.{beside};
 use super::Megacell;
 use crate::heading::Heading;
-use crate::place::Place;
 
 impl Megacell {
     /// The megacell at these numbers; none where either is over 31.
@@ -18,14 +17,12 @@ impl Megacell {
         }
     }
 
-    /// The megacell around a place.
-    pub fn around(place: Place) -> Megacell
-        ensures { λ r. ⌜ r ≡ megacellOf place ⌝ }
+    /// The megacell at two numbers that are in range.
+    pub(crate) fn within(row: u8, column: u8) -> Megacell
+        requires { ⌜ row < 32 ⌝ ∗ ⌜ column < 32 ⌝ }
+        ensures { λ r. ⌜ (r .row ≡ row) × (r .column ≡ column) ⌝ }
     {
-        Megacell {
-            row: place.row() / 2,
-            column: place.column() / 2,
-        }
+        Megacell { row, column }
     }
 
     /// The row, counted southward.
@@ -78,6 +75,6 @@ pub impl PartialEq<Megacell> for Megacell as MegacellEq {
     ghost equals = { λ a b r. r ≡ sameMegacell a b };
 
     fn eq(&self, other: &Megacell) -> bool {
-        self.row == other.row && self.column == other.column
+        other.row == self.row && other.column == self.column
     }
 }

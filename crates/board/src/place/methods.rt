@@ -60,7 +60,7 @@ impl Place {
     pub fn megacell(self) -> Megacell
         ensures { λ r. ⌜ r ≡ megacellOf self ⌝ }
     {
-        Megacell::around(self)
+        Megacell::within(self.row / 2, self.column / 2)
     }
 
     /// Which subcell of its megacell it is.
@@ -97,6 +97,6 @@ pub impl PartialEq<Place> for Place as PlaceEq {
     ghost equals = { λ a b r. r ≡ samePlace a b };
 
     fn eq(&self, other: &Place) -> bool {
-        self.row == other.row && self.column == other.column
+        other.row == self.row && other.column == self.column
     }
 }

@@ -2,10 +2,10 @@ use borrow.Author.Needs.{needs}
 use Rattle.board.specs.Places.{samePlace}
 use Rattle.board.proofs.place.methods.PlaceEq.eq.Needs as need
 
-pub returns-then-self-other : need.returns-then-self-other
+pub returns-then-other-self : need.returns-then-other-self
 unfolding samePlace
-returns-then-self-other c = search needs
+returns-then-other-self c = search needs
 
-pub returns-else-self-other : need.returns-else-self-other
+pub returns-else-other-self : need.returns-else-other-self
 unfolding samePlace
-returns-else-self-other c = search needs
+returns-else-other-self c = search needs

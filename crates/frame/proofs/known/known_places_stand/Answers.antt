@@ -2,7 +2,7 @@ use mathlib.Core.Path.{refl, sym}
 use Rattle.board.specs.Places.{placed}
 use Rattle.board.proofs.Geometry.{placed-at}
 use Rattle.frame.specs.Frames.{mirrored, quarter}
-use Rattle.frame.proofs.known.known_frames_stand.Needs as need
+use Rattle.frame.proofs.known.known_places_stand.Needs as need
 
 pub returns : need.returns
 unfolding placed quarter mirrored
