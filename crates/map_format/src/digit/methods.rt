@@ -4,7 +4,7 @@ use super::Digit;
 
 impl Digit {
     /// The digit that an ASCII byte is; none where it is no digit.
-    pub fn of_byte(byte: u8) -> Option<Digit>
+    pub(crate) fn of_byte(byte: u8) -> Option<Digit>
         ensures { λ r. ⌜ r ≡ digitOf byte ⌝ }
     {
         if byte >= b'0' && byte <= b'9' {

@@ -1,0 +1,9 @@
+use mathlib.Core.Path.{_≡_, sym, _∙_}
+use Rattle.drawn_floor.proofs.Passing.{south-east, there}
+use Rattle.drawn_floor.proofs.floor.south_east.Needs as need
+
+pub unreachable-requires : need.unreachable-requires
+unreachable-requires c κs = there _ _ (south-east (c .args .megacell) _ _ (c .row .ensures) (c .column .ensures)) (sym (c .new .ensures) ∙ c .in-None .is)
+
+pub returns : need.returns
+returns c = let e = south-east (c .args .megacell) _ _ (c .row .ensures) (c .column .ensures) in cc
