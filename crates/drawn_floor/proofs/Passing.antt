@@ -53,9 +53,9 @@ unfolding floorOf
 edges d m h e = ap (λ o. freeAt d m && thereFree d o) e ∙ and-false (freeAt d m)
 
 -- the numbers of a south-east subcell make a place
-pub south-east : (m : Megacell) (r c : ℕ) → r ≡ m .row → c ≡ m .column → placed (2 * r + 1) (2 * c + 1) ≡ Some (subcell m East)
+pub south-east : (m : Megacell) (r c : ℕ) → r ≡ 2 * m .row + 1 → c ≡ 2 * m .column + 1 → placed r c ≡ Some (subcell m East)
 unfolding subcell
-south-east m r c e f = placed-at _ _ (subcell m East) (omega arith) (omega arith)
+south-east m r c e f = placed-at r c (subcell m East) e f
 
 pub there : (o : Option Place) (p : Place) → o ≡ Some p → o ≡ None → ⊥
 there o p e f = let z : _≡_ {A = ℕ} 0 1 = cc in omega arith

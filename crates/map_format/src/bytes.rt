@@ -16,9 +16,9 @@ fn is_permitted(byte: u8) -> bool
 pub(crate) fn first_forbidden(map: &[u8]) -> Option<usize>
     ensures { λ r. ⌜ r ≡ first (forbidden (now (map .entry))) (length (now (map .entry))) ⌝ }
 {
-    for (i, byte) in map.iter().enumerate() {
+    for (offset, byte) in map.iter().enumerate() {
         if !is_permitted(*byte) {
-            return Some(i);
+            return Some(offset);
         }
     }
     None
@@ -30,9 +30,9 @@ pub(crate) fn first_from(map: &[u8], byte: u8, from: usize) -> Option<usize>
     ensures is { λ r. ⌜ r ≡ firstFrom (now (map .entry)) byte from ⌝ }
     ensures within { λ r. ⌜ Cases r (Unit {0}) (λ o. (from ≤ o) × (o < length (now (map .entry))) × (getD (now (map .entry)) o 0 ≡ byte)) ⌝ }
 {
-    for i in from..map.len() {
-        if map[i] == byte {
-            return Some(i);
+    for at in from..map.len() {
+        if map[at] == byte {
+            return Some(at);
         }
     }
     None

@@ -25,7 +25,7 @@ fn cell_in(map: &[u8], width: usize, row: usize, column: usize) -> Cell
     ensures { λ r. ⌜ r ≡ cellIn (now (map .entry)) width row column ⌝ }
 {
     let start = row_start(row, width);
-    if column < width && start < map.len() && start + column < map.len() {
+    if column < width && start + column < map.len() {
         cell_of(map[start + column])
     } else {
         Cell::Blocked

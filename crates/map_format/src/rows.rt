@@ -34,7 +34,8 @@ fn is_good(map: &[u8], width: usize, at: usize) -> bool
 /// Where row `row` begins, when each row before it has the width and its LF.
 pub(crate) fn row_start(row: usize, width: usize) -> usize
     requires { ⌜ row ≤ 1056 ⌝ ∗ ⌜ width ≤ 1056 ⌝ }
-    ensures { λ r. ⌜ r ≡ row * (width + 1) ⌝ }
+    ensures is { λ r. ⌜ r ≡ row * (width + 1) ⌝ }
+    ensures small { λ r. ⌜ r ≤ 1116192 ⌝ }
 {
     row * (width + 1)
 }

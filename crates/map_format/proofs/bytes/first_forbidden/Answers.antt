@@ -4,11 +4,11 @@ use native.Mathlib.Omega.{arith}
 use Rattle.firsts.proofs.Firsts.{first-zero, first-more, first-here}
 use Rattle.map_format.proofs.bytes.first_forbidden.Needs as need
 
-pub loop-i-holds : need.loop-i-holds
-loop-i-holds c = first-zero _
+pub loop-offset-holds : need.loop-offset-holds
+loop-offset-holds c = first-zero _
 
 pub returns-then-not-is-permitted : need.returns-then-not-is-permitted
-returns-then-not-is-permitted c = sym (first-here _ (c .loop-i .i) _ (c .loop-i .inv) (ap not (sym (c .if-not-is-permitted .ensures tt))) (omega arith))
+returns-then-not-is-permitted c = sym (first-here _ (c .loop-offset .offset) _ (c .loop-offset .inv) (ap not (sym (c .if-not-is-permitted .ensures tt))) (omega arith))
 
-pub loop-i-again : need.loop-i-again
-loop-i-again c = first-more _ (c .loop-i .i) (c .loop-i .inv) (ap not (sym (c .if-not-is-permitted .ensures tt)))
+pub loop-offset-again : need.loop-offset-again
+loop-offset-again c = first-more _ (c .loop-offset .offset) (c .loop-offset .inv) (ap not (sym (c .if-not-is-permitted .ensures tt)))

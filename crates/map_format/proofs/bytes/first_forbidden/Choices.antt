@@ -4,5 +4,5 @@ use Rattle.firsts.specs.First.{first}
 use Rattle.map_format.specs.Bytes.{forbidden}
 use Rattle.map_format.proofs.bytes.first_forbidden.Given as given
 
-abbrev pub Inv-loop-i : given.InvT-loop-i
-Inv-loop-i l = first (forbidden (l .map)) (l .i) ≡ None
+abbrev pub Inv-loop-offset : given.InvT-loop-offset
+Inv-loop-offset l = first (forbidden (l .map)) (l .offset) ≡ None

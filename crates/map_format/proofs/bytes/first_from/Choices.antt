@@ -4,5 +4,5 @@ use Rattle.firsts.specs.First.{first}
 use Rattle.map_format.specs.Bytes.{stands}
 use Rattle.map_format.proofs.bytes.first_from.Given as given
 
-abbrev pub Inv-loop-i : given.InvT-loop-i
-Inv-loop-i l = first (stands (l .map) (l .byte) (l .from)) (l .i) ≡ None
+abbrev pub Inv-loop-at : given.InvT-loop-at
+Inv-loop-at l = first (stands (l .map) (l .byte) (l .from)) (l .at) ≡ None
