@@ -1,0 +1,2 @@
+mod Lamps
+mod Passing
