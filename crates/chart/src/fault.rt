@@ -1,6 +1,7 @@
 ghost use Rattle.chart.specs.Charts.{told};
 use fault::Fault;
 use fault::layer::Layer;
+use std::error::Error;
 use std::fmt;
 
 /// Why slots do not make a chart.
@@ -42,3 +43,5 @@ pub impl fmt::Display for ChartFault as ChartFaultDisplay {
         }
     }
 }
+
+pub impl Error for ChartFault as ChartFaultError {}

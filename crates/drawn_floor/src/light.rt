@@ -7,4 +7,5 @@ pub enum Light {
     Lux(f32),
 }
 
+pub mod display;
 pub mod levels;

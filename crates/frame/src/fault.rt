@@ -1,6 +1,7 @@
 ghost use Rattle.frame.specs.Numbered.{told};
 use fault::Fault;
 use fault::layer::Layer;
+use std::error::Error;
 use std::fmt;
 
 /// Why there is no frame of a number.
@@ -42,3 +43,5 @@ pub impl fmt::Display for FrameFault as FrameFaultDisplay {
         }
     }
 }
+
+pub impl Error for FrameFault as FrameFaultError {}

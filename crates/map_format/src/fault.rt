@@ -2,6 +2,7 @@ ghost use mathlib.Core.Path.{_≡_};
 ghost use Rattle.map_format.specs.Faults.{told};
 use fault::Fault;
 use fault::layer::Layer;
+use std::error::Error;
 use std::fmt;
 
 /// Why a map is refused. An offset counts the map's bytes from 0.
@@ -88,3 +89,5 @@ pub impl fmt::Display for MapFault as MapFaultDisplay {
         }
     }
 }
+
+pub impl Error for MapFault as MapFaultError {}

@@ -4,6 +4,7 @@ use board::heading::Heading;
 use board::heading::HeadingDebug;
 use fault::Fault;
 use fault::layer::Layer;
+use std::error::Error;
 use std::fmt;
 
 /// Why a rover does not step.
@@ -57,3 +58,5 @@ pub impl fmt::Display for RoverFault as RoverFaultDisplay {
         }
     }
 }
+
+pub impl Error for RoverFault as RoverFaultError {}
