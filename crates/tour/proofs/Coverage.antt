@@ -1,29 +1,26 @@
--- What the invariant says of a sweep.
+-- The coverage theorem: what the laws of a history say of the tour at every move until home.
 use mathlib.Core.Path.{_≡_, refl, sym, _∙_, ap, subst}
 use mathlib.Core.List.{List, [], _∷_, _++_, reverseAux}
-use mathlib.Core.Bool.{Bool, true, false, cond, not, _&&_, _||_}
-use mathlib.Core.Logic.{_⊎_, inl, inr}
-use Rattle.std.specs.declared.option.Option.{Option}
-use Rattle.std.specs.declared.option.Option.the-variants.{Some, None}
-use Prim.Native.Nat.{ℕ, zero, suc, _+_, _-_, _*_, _≤_, _<_}
+use mathlib.Core.Bool.{Bool, true, false}
+use Prim.Native.Nat.{ℕ, zero, suc, _+_, _-_, _*_, _≤_}
 use native.Mathlib.Omega.{arith}
-use lib.ListN.{length, length-append}
-use Rattle.std.proofs.shelf.Tests.{both-ways, or-right}
+use lib.ListN.{length}
+use Rattle.std.proofs.shelf.Tests.{both-ways}
 use Rattle.board.specs.declared.heading.Heading.{Heading}
 use Rattle.board.specs.declared.megacell.Megacell.{Megacell}
 use Rattle.board.specs.declared.place.Place.{Place}
-use Rattle.board.specs.Places.{sameMegacell, samePlace, megacellOf}
-use Rattle.board.specs.Corners.{exit, subcell}
-use Rattle.board.specs.Steps.{step, beside}
+use Rattle.board.specs.Places.{samePlace, megacellOf}
+use Rattle.board.specs.Corners.{subcell}
+use Rattle.board.specs.Steps.{step}
 use Rattle.board.specs.Counting.{bit, many}
 use Rattle.tour.specs.History.{here, old, home, walk, entered, at, enters}
 use Rattle.board.specs.Floors.{Floor, Lawful}
 use Rattle.tour.specs.Ground.{Ground, begin, across, Number}
 use Rattle.tour.specs.Rules.{nextMove}
-use Rattle.tour.specs.Tour.{tour, visited, moveAfter, tourLooks, homeAfter, Underway, Whole, Swept, Covers}
+use Rattle.tour.specs.Tour.{tour, visited, tourLooks, Underway, Covers}
 use Rattle.board.proofs.Geometry.{samePlace-true, samePlace-refl, sameMegacell-refl, megacell-subcell, exit-subcell}
-use Rattle.tour.proofs.History.{true-when-counted, bit-at-most-one, Plan, head-is-in, tail-is-in, Departed, start-is-departed, entered-is-departed}
-use Rattle.tour.proofs.Invariant.{Laws, laws-at-start, Advances, move-keeps-laws}
+use Rattle.tour.proofs.History.{false-unless-true, start-is-old, true-when-counted, bit-at-most-one, Plan, head-is-in, tail-is-in, Departed, start-is-departed, entered-is-departed}
+use Rattle.tour.proofs.Laws.{Laws, laws-at-start, Advances, move-keeps-laws}
 
 pub walk-one-more : (s : Place) (ps : List Place) (ms : List Heading) (h : Heading) → walk s ps (ms ++ (h ∷ [])) ≡ step h (here s (walk s ps ms)) ∷ walk s ps ms
 unfolding walk
@@ -49,12 +46,7 @@ pub entered-length : (s : Place) (ms : List Heading) → length (entered s ms) �
 unfolding entered
 entered-length s ms = omega (arith, walk-length s [] ms)
 
-start-is-old : (s : Place) (ps : List Place) → old s ps (megacellOf s) ≡ true
-unfolding old
-start-is-old s [] = sameMegacell-refl (megacellOf s)
-start-is-old s (p ∷ ps) = or-right _ _ (start-is-old s ps)
-
--- the start is the last of the plan
+-- as long as a plan is left, it ends with the start
 start-is-planned : (s : Place) (ps : List Place) (p b : Place) (rest : List Place) → Plan s ps p (b ∷ rest) → 1 ≤ many (samePlace s) (b ∷ rest)
 start-is-planned s ps p b [] k = subst (λ (x : Place). 1 ≤ many (samePlace s) (x ∷ [])) (sym (k .1)) (head-is-in s [])
 start-is-planned s ps p b (d ∷ rest) k = tail-is-in s b (d ∷ rest) (start-is-planned s ps b d rest (k .1))
@@ -77,10 +69,6 @@ home-departed-from-all s (p ∷ ps) a e h = go (samePlace a p) refl h
     go : (b : Bool) → samePlace a p ≡ b → 1 ≤ bit b + many (samePlace a) ps → Departed s (p ∷ ps) a
     go true f k = subst (Departed s (p ∷ ps)) (sym (samePlace-true a p f ∙ samePlace-true p s e)) (start-is-departed s p ps)
     go false f k = entered-is-departed s p ps a (omega arith)
-
-bool-false : (b : Bool) → (b ≡ true → ⊥) → b ≡ false
-bool-false true f = absurd (f refl)
-bool-false false f = refl
 
 module _ (floor : Floor) (s : Place) (ps : List Place) (olds : List Megacell) (l : ℕ) where
   start-not-yet-entered : (b : Place) (rest : List Place) → Laws floor s ps (b ∷ rest) olds l → 1 ≤ many (samePlace s) ps → ⊥
@@ -110,9 +98,9 @@ module _ (floor : Floor) (s : Place) (ps : List Place) (olds : List Megacell) (l
   home-entered-all v p g = let o = home-olds-are-closed v (megacellOf p) g in omega (arith, v .once p, ap bit o)
 
   planned-is-not-home : (b : Place) (rest : List Place) → Laws floor s ps (b ∷ rest) olds l → home s ps ≡ false
-  planned-is-not-home b rest v = bool-false (home s ps) (λ e. start-not-yet-entered b rest v (home-entered-start s ps e))
+  planned-is-not-home b rest v = false-unless-true (home s ps) (λ e. start-not-yet-entered b rest v (home-entered-start s ps e))
 
-  -- the fields that go by whether the plan is done
+  -- home exactly when the plan is done
   home-is-whole : (rest : List Place) → Laws floor s ps rest olds l → home s ps ≡ true → (p : Place) → Ground floor s (megacellOf p) → 1 ≤ many (samePlace p) ps
   home-is-whole [] v e = home-entered-all v
   home-is-whole (b ∷ rest) v e = absurd (both-ways _ (planned-is-not-home b rest v) e)
@@ -152,7 +140,7 @@ next-move-keeps-laws : (floor : Floor) → Lawful floor → (s : Place) → (ps 
 next-move-keeps-laws floor law s ps [] olds l v e = absurd (both-ways _ e (plan-done-is-home floor s ps olds l v))
 next-move-keeps-laws floor law s ps (b ∷ rest) olds l v e = move-keeps-laws floor law s ps rest b olds l v
 
--- the invariant after n tour
+-- the laws after the first n moves
 unfoldable pub LawsHold : Floor → Place → ℕ → Type 0
 LawsHold floor s n = (rest : List Place) × (olds : List Megacell) × Laws floor s (visited floor s n) rest olds (tourLooks floor s n)
 

@@ -1,17 +1,13 @@
 -- The laws of a floor can be met, and the tours of the worked floors, by computation.
 use mathlib.Core.Path.{_≡_, refl, sym, _∙_, ap, subst}
-use mathlib.Core.List.{List, [], _∷_}
-use mathlib.Core.Bool.{Bool, true, false, not, _&&_, _||_}
-use mathlib.Core.Logic.{_⊎_, inl, inr}
-use Prim.Native.Nat.{ℕ, zero, suc, _+_, _*_, _≤_, _<_}
+use mathlib.Core.Bool.{Bool, true, false, not, _&&_}
+use mathlib.Core.Logic.{inl, inr}
+use Prim.Native.Nat.{ℕ, zero, suc, _+_, _*_, _<_}
 use native.Mathlib.Omega.{arith}
-use lib.Chars.{codes}
 use Rattle.std.specs.declared.option.Option.{Option}
-use Rattle.std.specs.declared.option.Option.the-variants.{Some, None}
 use Rattle.std.proofs.shelf.Tests.{cases-lt, and-parts}
 use Rattle.board.specs.declared.megacell.Megacell.{Megacell}
 use Rattle.board.specs.declared.place.Place.{Place}
-use Rattle.board.specs.declared.heading.Heading.{Heading}
 use Rattle.board.specs.Headings.{left, opposite, letter}
 use Rattle.board.specs.Places.{placed, celled, samePlace, sameMegacell, megacellOf}
 use Rattle.board.specs.Corners.{exitOf, cornerBy, cornerOf, exit}

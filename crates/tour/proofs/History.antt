@@ -1,15 +1,15 @@
--- What a further entered place does to the old megacells, the parents and the plan.
-use mathlib.Core.Path.{_≡_, refl, sym, _∙_, ap, subst}
-use mathlib.Core.List.{List, [], _∷_, _++_}
-use mathlib.Core.Bool.{Bool, true, false, cond, not, _&&_, _||_}
+-- What one more entered place does to the old megacells, to the parents, and to the rest of the tour that is planned.
+use mathlib.Core.Path.{_≡_, refl, sym, _∙_, ap}
+use mathlib.Core.List.{List, [], _∷_}
+use mathlib.Core.Bool.{Bool, true, false, cond, not, _||_}
 use mathlib.Core.Logic.{_⊎_, inl, inr}
 use Rattle.std.specs.declared.option.Option.{Option}
 use Rattle.std.specs.declared.option.Option.the-variants.{Some, None}
-use Prim.Native.Nat.{ℕ, zero, suc, _+_, _-_, _*_, _≤_, _<_}
+use Prim.Native.Nat.{ℕ, _+_, _-_, _≤_}
 use native.Mathlib.Omega.{arith}
-use Rattle.std.proofs.shelf.Tests.{both-ways, or-left, or-right, or-parts, or-cases}
+use Rattle.std.proofs.shelf.Tests.{both-ways, or-left, or-right, or-cases}
 use Rattle.board.specs.declared.heading.Heading.{Heading}
-use Rattle.board.specs.Headings.{left, right, opposite}
+use Rattle.board.specs.Headings.{left}
 use Rattle.board.specs.Places.{sameMegacell, samePlace, megacellOf}
 use Rattle.board.specs.Corners.{exit}
 use Rattle.board.specs.Steps.{step, beside}
@@ -39,6 +39,15 @@ bit-of-either true b f = rw f refl
 bit-of-either false true f = refl
 bit-of-either false false f = refl
 
+pub false-unless-true : (b : Bool) → (b ≡ true → ⊥) → b ≡ false
+false-unless-true true f = absurd (f refl)
+false-unless-true false f = refl
+
+pub start-is-old : (s : Place) (ps : List Place) → old s ps (megacellOf s) ≡ true
+unfolding old
+start-is-old s [] = sameMegacell-refl (megacellOf s)
+start-is-old s (p ∷ ps) = or-right _ _ (start-is-old s ps)
+
 pub here-is-old : (s : Place) (ps : List Place) → old s ps (megacellOf (here s ps)) ≡ true
 unfolding old here
 here-is-old s [] = sameMegacell-refl (megacellOf s)
@@ -52,11 +61,12 @@ pub entered-is-old : (s p : Place) (ps : List Place) → old s (p ∷ ps) (megac
 unfolding old
 entered-is-old s p ps = or-left _ _ (sameMegacell-refl (megacellOf p))
 
--- a megacell that became old is the new place's
+-- a megacell that is old after a move is the one entered, or was old before
 pub newly-old-is-entered : (s p : Place) (ps : List Place) (m : Megacell) → old s (p ∷ ps) m ≡ true → (megacellOf p ≡ m) ⊎ (old s ps m ≡ true)
 unfolding old
 newly-old-is-entered s p ps m e = elim (or-cases _ _ e) [ inl f ↦ inl (sameMegacell-true (megacellOf p) m f) | inr f ↦ inr f ]
 
+-- a move into an old megacell makes no other old
 pub entering-old-ages-none : (s p : Place) (ps : List Place) (m : Megacell) → old s ps (megacellOf p) ≡ true → old s (p ∷ ps) m ≡ old s ps m
 entering-old-ages-none s p ps m e = bools _ _
     (λ f. elim (newly-old-is-entered s p ps m f) [ inl g ↦ ap (old s ps) (sym g) ∙ e | inr g ↦ g ])
@@ -67,12 +77,12 @@ pub parent-of-old-stays : (s p : Place) (ps : List Place) (m : Megacell) → old
 unfolding parent
 parent-of-old-stays s p ps m e = rw e
 
--- a new megacell's parent is where the rover was
+-- the parent of a new megacell is the one that the rover left
 pub parent-of-new-is-left : (s p : Place) (ps : List Place) (m : Megacell) → old s ps m ≡ false → megacellOf p ≡ m → parent s (p ∷ ps) m ≡ Some (megacellOf (here s ps))
 unfolding parent
 parent-of-new-is-left s p ps m e f = let g : sameMegacell (megacellOf p) m ≡ true = ap (sameMegacell (megacellOf p)) (sym f) ∙ sameMegacell-refl (megacellOf p) in rw (e, g)
 
--- and of a megacell with a parent that was new, nothing else can be
+-- a parent after a move was the parent before, or the megacell is the new one and its parent the one left
 pub parent-stays-or-is-left : (s p : Place) (ps : List Place) (m z : Megacell) → parent s (p ∷ ps) m ≡ Some z →
     ((old s ps m ≡ true) × (parent s ps m ≡ Some z)) ⊎ ((old s ps m ≡ false) × (megacellOf p ≡ m) × (z ≡ megacellOf (here s ps)))
 unfolding parent
@@ -84,7 +94,7 @@ parent-stays-or-is-left s p ps m z = go (old s ps m) (sameMegacell (megacellOf p
     go false true e f g = inr (e, sameMegacell-true (megacellOf p) m f, cc)
     go false false e f g = inr (e, cc, cc)
 
--- does the exit of a lead to the parent of its megacell
+-- whether the exit of a place leads to the parent of its megacell
 unfoldable pub leadsToParent : Place → List Place → Place → Bool
 leadsToParent s ps a = isParent (beside (megacellOf a) (exit a)) (parent s ps (megacellOf a))
 
@@ -104,16 +114,17 @@ pub same-isParent : (o q : Option Megacell) (z : Megacell) → o ≡ Some z → 
 unfolding isParent
 same-isParent o q z e f = rw (e, f, isParent) (sameMegacell-refl z)
 
+-- how the tour goes on from a place of an old megacell: it crosses to the parent, or turns
 unfoldable pub planned : Bool → Heading → Heading
 planned true e = e
 planned false e = left e
 
--- The rest of the tour: from p each place leads to the next, and the last is s.
+-- A plan of the rest of the tour, from the place p: each place leads to the next, and the last is the start.
 abbrev pub Plan : Place → List Place → Place → List Place → Type 0
 Plan s ps p [] = p ≡ s
 Plan s ps p (b ∷ rest) = (b ≡ step (planned (leadsToParent s ps p) (exit p)) p) × Plan s ps b rest
 
--- how many of the places still to depart from do not lead to a parent
+-- how many of the places still to be left have an exit that does not lead to the parent: each may cost a look
 unfoldable pub unexamined : Place → List Place → Place → List Place → ℕ
 unexamined s ps p [] = 0
 unexamined s ps p (b ∷ rest) = bit (not (leadsToParent s ps p)) + unexamined s ps b rest

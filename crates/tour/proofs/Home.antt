@@ -1,18 +1,16 @@
 -- Every tour comes home: each megacell is counted once, the board has 1,024, and each takes four moves.
-use mathlib.Core.Path.{_≡_, refl, sym, _∙_, ap, subst}
-use mathlib.Core.List.{List, [], _∷_, _++_}
+use mathlib.Core.Path.{_≡_, refl, _∙_, ap}
 use mathlib.Core.Bool.{Bool, true, false}
 use mathlib.Core.Logic.{_⊎_, inl, inr}
-use Prim.Native.Nat.{ℕ, zero, suc, _+_, _-_, _*_, _/_, _%_, _≤_, _<_}
+use Prim.Native.Nat.{ℕ, zero, suc, _+_, _-_, _*_, _≤_, _<_}
 use native.Mathlib.Omega.{arith}
 use lib.ListN.{length, length-append}
-use Rattle.std.proofs.shelf.Tests.{both-ways, cases-lt, cases-bool}
+use Rattle.std.proofs.shelf.Tests.{cases-lt, cases-bool}
 use Rattle.board.specs.declared.place.Place.{Place}
 use Rattle.board.specs.Floors.{Floor, Lawful}
-use Rattle.tour.specs.History.{entered}
-use Rattle.tour.specs.Tour.{tour, visited, moveAfter, tourLooks, homeAfter, Underway, ComesHome}
+use Rattle.tour.specs.Tour.{tour, visited, tourLooks, homeAfter, Underway, ComesHome}
 use Rattle.tour.proofs.Coverage.{LawsHold, laws-hold, olds-number, entered-length}
-use Rattle.tour.proofs.Numbers.{amongFirst, amongFirst-at-most, all-are-among}
+use Rattle.tour.proofs.Numbers.{amongFirst-at-most, all-are-among}
 
 pub tour-length : (floor : Floor) (s : Place) (n : ℕ) → length (tour floor s n) ≡ n
 unfolding tour

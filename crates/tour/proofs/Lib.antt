@@ -1,7 +1,7 @@
 pub mod History
 pub mod Rules
 pub mod Means
-pub mod Invariant
+pub mod Laws
 pub mod Coverage
 pub mod Numbers
 pub mod Home

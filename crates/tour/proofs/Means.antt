@@ -1,29 +1,24 @@
--- What `old` and `parent` mean, and the parent as a heading, as a program's table may hold it.
-use mathlib.Core.Path.{_≡_, refl, sym, _∙_, ap, subst}
+-- `old` and `parent` mean what the words say; and a parent may be kept as the heading towards it.
+use mathlib.Core.Path.{_≡_, refl, sym, _∙_, ap}
 use mathlib.Core.List.{List, [], _∷_, _++_}
 use mathlib.Core.Bool.{Bool, true, false}
 use mathlib.Core.Logic.{_⊎_, inl, inr}
 use Rattle.std.specs.declared.option.Option.{Option}
-use Rattle.std.specs.declared.option.Option.the-variants.{Some, None}
-use Prim.Native.Nat.{ℕ, _+_, _≤_}
+use Rattle.std.specs.declared.option.Option.the-variants.{Some}
+use Prim.Native.Nat.{_+_, _≤_}
 use native.Mathlib.Omega.{arith}
 use Rattle.board.specs.declared.heading.Heading.{Heading}
 use Rattle.board.specs.declared.megacell.Megacell.{Megacell}
 use Rattle.board.specs.declared.place.Place.{Place}
 use Rattle.board.specs.Headings.{sameHeading}
-use Rattle.board.specs.Places.{sameMegacell, samePlace, megacellOf}
+use Rattle.board.specs.Places.{samePlace, megacellOf}
 use Rattle.board.specs.Steps.{beside}
 use Rattle.board.specs.Counting.{bit, many}
 use Rattle.tour.specs.History.{here, old, parent}
 use Rattle.tour.specs.Meaning.{FirstEntry, Meaning}
 use Rattle.tour.specs.Rules.{isParent}
-use Rattle.board.proofs.Geometry.{sameMegacell-true, sameMegacell-refl, samePlace-true, bools, sameHeading-true, sameHeading-refl, beside-inj, beside-back}
-use Rattle.tour.proofs.History.{isParent-names-one, same-isParent, parent-stays-or-is-left, parent-of-old-stays, parent-of-new-is-left, newly-old-is-entered, old-stays-old, entered-is-old, head-is-in, tail-is-in}
-
-pub start-is-old : (s : Place) (ps : List Place) → old s ps (megacellOf s) ≡ true
-unfolding old
-start-is-old s [] = sameMegacell-refl (megacellOf s)
-start-is-old s (p ∷ ps) = old-stays-old s p ps (megacellOf s) (start-is-old s ps)
+use Rattle.board.proofs.Geometry.{sameMegacell-true, samePlace-true, bools, sameHeading-true, sameHeading-refl, beside-inj}
+use Rattle.tour.proofs.History.{start-is-old, isParent-names-one, same-isParent, parent-stays-or-is-left, parent-of-old-stays, parent-of-new-is-left, newly-old-is-entered, old-stays-old, entered-is-old, head-is-in, tail-is-in}
 
 entered-makes-old : (s : Place) (ps : List Place) (p : Place) → 1 ≤ many (samePlace p) ps → old s ps (megacellOf p) ≡ true
 unfolding many bit
@@ -79,7 +74,7 @@ meaning = record {
       cc;
 }
 
--- a table that holds the heading to the parent serves rule 1
+-- where the parent of m lies at the heading k, the neighbour at e is the parent exactly when e is k
 pub isParent-by-heading : (m z : Megacell) (e k : Heading) (o : Option Megacell) → o ≡ Some z → beside m k ≡ Some z → isParent (beside m e) o ≡ sameHeading e k
 isParent-by-heading m z e k o i j = bools _ _
     (λ t.

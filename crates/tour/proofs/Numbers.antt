@@ -1,8 +1,8 @@
 -- How many megacells have a property: one number and no other, at most 1,024; and what a move does to the number of old ones.
-use mathlib.Core.Path.{_≡_, refl, sym, _∙_, ap, subst}
+use mathlib.Core.Path.{_≡_, refl, sym, _∙_, ap}
 use mathlib.Core.List.{List, [], _∷_}
-use mathlib.Core.Bool.{Bool, true, false}
-use mathlib.Core.Logic.{_⊎_, inl, inr}
+use mathlib.Core.Bool.{true, false}
+use mathlib.Core.Logic.{inl, inr}
 use Prim.Native.Nat.{ℕ, zero, suc, _+_, _-_, _*_, _/_, _%_, _≤_, _<_}
 use native.Mathlib.Omega.{arith}
 use lib.ListN.{length}
@@ -16,13 +16,14 @@ use Rattle.tour.specs.Ground.{Ground, Number, OneNumber}
 use Rattle.board.proofs.Geometry.{megacell-path, sameMegacell-refl, sameMegacell-true}
 use Rattle.tour.proofs.History.{bit-at-most-one, true-when-counted, entering-old-ages-none, newly-old-is-entered, old-stays-old, entered-is-old, sameMegacell-sym}
 
+-- the megacell with this number among the 1,024
 wraps : (k : ℕ) → k % 32 < 32
 wraps k = omega arith
 
 megacellAt : ℕ → Megacell
 megacellAt k = record { row = (k / 32) % 32; column = k % 32; rows = wraps (k / 32); columns = wraps k }
 
--- how many of xs are among the first n megacells
+-- how often the first n megacells of the board, row by row, stand in a list
 pub amongFirst : ℕ → List Megacell → ℕ
 amongFirst zero xs = 0
 amongFirst (suc k) xs = many (sameMegacell (megacellAt k)) xs + amongFirst k xs
@@ -126,7 +127,7 @@ one-number = record {
 at-most-1024-by : (P : Megacell → Type 0) (k c : ℕ) → c ≡ 1024 → Number P k → k ≤ c
 at-most-1024-by P k c e w = omega (arith, w .size, amongFirst-at-most c (w .list) (w .once), all-are-among c (w .list) e)
 
--- there are 1024 megacells
+-- the board has 1,024 megacells
 pub at-most-1024 : (P : Megacell → Type 0) (k : ℕ) → Number P k → k ≤ 1024
 at-most-1024 P k w = at-most-1024-by P k 1024 refl w
 
@@ -141,7 +142,7 @@ one-old-at-start s = record {
   each = λ m e. omega (arith, ap bit (sameMegacell-sym m (megacellOf s) ∙ e));
 }
 
--- the old megacells after a move into an old one, and into a new one
+-- a move into an old megacell leaves the number of old ones, and a move into a new one adds one
 pub number-stays : (s q : Place) (ps : List Place) (k : ℕ) → old s ps (megacellOf q) ≡ true → Number (λ m. old s ps m ≡ true) k → Number (λ m. old s (q ∷ ps) m ≡ true) k
 number-stays s q ps k o w = record {
   list = w .list;

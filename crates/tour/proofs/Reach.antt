@@ -1,18 +1,17 @@
 -- What is known of the tour that the rules give, as laws from one move to the next: for code that makes it move by move, and for theorems about it.
-use mathlib.Core.Path.{_≡_, refl, sym, _∙_, ap, subst}
-use mathlib.Core.List.{List, [], _∷_}
-use mathlib.Core.Bool.{Bool, true, false}
-use mathlib.Core.Logic.{_⊎_, inl, inr}
-use Prim.Native.Nat.{ℕ, zero, suc, _+_, _-_, _*_, _≤_, _<_}
+use mathlib.Core.Path.{_≡_, refl, sym, _∙_, ap}
+use mathlib.Core.List.{[], _∷_}
+use mathlib.Core.Bool.{true, false}
+use mathlib.Core.Logic.{inl, inr}
+use Prim.Native.Nat.{ℕ, _+_, _-_, _*_, _≤_, _<_}
 use native.Mathlib.Omega.{arith}
 use native.Mathlib.Numerals.{add-one}
 use Rattle.std.proofs.shelf.Tests.{both-ways, cases-lt}
-use Rattle.board.specs.declared.heading.Heading.{Heading}
 use Rattle.board.specs.declared.place.Place.{Place}
 use Rattle.board.specs.Steps.{step}
 use Rattle.board.specs.Counting.{bit}
 use Rattle.board.specs.Floors.{Floor, Lawful}
-use Rattle.tour.specs.History.{here, home, entered}
+use Rattle.tour.specs.History.{here, entered}
 use Rattle.tour.specs.Ground.{Ground, Number}
 use Rattle.tour.specs.Tour.{tour, visited, moveAfter, tourLooks, homeAfter, Underway}
 use Rattle.tour.proofs.Coverage.{covers, walk-one-more}

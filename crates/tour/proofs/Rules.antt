@@ -1,9 +1,9 @@
 -- A history allows exactly one next move, the computed one; so moves by the rules are the tour.
-use mathlib.Core.Path.{_≡_, refl, sym, _∙_, ap, subst}
+use mathlib.Core.Path.{_≡_, refl, sym, _∙_, ap}
 use mathlib.Core.List.{List, [], _∷_, _++_, append-assoc, append-nil}
 use mathlib.Core.Bool.{Bool, true, false}
-use mathlib.Core.Logic.{_⊎_, inl, inr}
-use Prim.Native.Nat.{ℕ, suc, _<_}
+use mathlib.Core.Logic.{inl, inr}
+use Prim.Native.Nat.{ℕ, suc}
 use native.Mathlib.Omega.{arith}
 use lib.ListN.{length, length-append}
 use Rattle.std.specs.declared.option.Option.{Option}
@@ -12,23 +12,15 @@ use Rattle.std.proofs.shelf.Tests.{both-ways, cases-lt}
 use Rattle.board.specs.declared.heading.Heading.{Heading}
 use Rattle.board.specs.declared.megacell.Megacell.{Megacell}
 use Rattle.board.specs.declared.place.Place.{Place}
-use Rattle.board.specs.Headings.{left}
-use Rattle.board.specs.Places.{megacellOf}
-use Rattle.board.specs.Corners.{exit}
-use Rattle.board.specs.Steps.{beside}
 use Rattle.board.specs.Floors.{Floor}
-use Rattle.tour.specs.History.{here, old, parent, home, entered}
+use Rattle.tour.specs.History.{parent, home, entered}
 use Rattle.tour.specs.Rules.{own, ownExit, neighbour, Move, Allows, cross-back, turn-absent, turn-old, cross-new, turn-closed, isParent, absentOrOld, ruled, nextMove, OneNext}
-use Rattle.tour.specs.Tour.{tour, visited, homeAfter, Underway, ByRules, RulesMake}
-use Rattle.tour.proofs.History.{isParent-names-one, same-isParent}
-
-bool-false : (b : Bool) → (b ≡ true → ⊥) → b ≡ false
-bool-false true f = absurd (f refl)
-bool-false false f = refl
+use Rattle.tour.specs.Tour.{tour, homeAfter, Underway, ByRules, RulesMake}
+use Rattle.tour.proofs.History.{false-unless-true, isParent-names-one, same-isParent}
 
 module _ (floor : Floor) (s : Place) (ps : List Place) where
-  computed-is-allowed : (o : Option Megacell) (t a f : Bool) → beside (own s ps) (exit (here s ps)) ≡ o → isParent o (parent s ps (own s ps)) ≡ t → absentOrOld s ps o ≡ a → floor (own s ps) (exit (here s ps)) ≡ f →
-      Allows floor s ps (ruled (exit (here s ps)) t a f)
+  computed-is-allowed : (o : Option Megacell) (t a f : Bool) → neighbour s ps ≡ o → isParent o (parent s ps (own s ps)) ≡ t → absentOrOld s ps o ≡ a → floor (own s ps) (ownExit s ps) ≡ f →
+      Allows floor s ps (ruled (ownExit s ps) t a f)
   unfolding ruled absentOrOld
   computed-is-allowed o true a f i et ea ef = let w = isParent-names-one o (parent s ps (own s ps)) et in cross-back (w .0) (i ∙ w .1) (w .2)
   computed-is-allowed None false true f i et ea ef = turn-absent i
@@ -37,8 +29,8 @@ module _ (floor : Floor) (s : Place) (ps : List Place) where
   computed-is-allowed (Some y) false false true i et ea ef = cross-new y i (λ k. both-ways _ et (same-isParent (Some y) _ y refl k)) ea ef
   computed-is-allowed (Some y) false false false i et ea ef = turn-closed y i (λ k. both-ways _ et (same-isParent (Some y) _ y refl k)) ea ef
 
-  other-is-not-parent : (y : Megacell) → beside (own s ps) (exit (here s ps)) ≡ Some y → (parent s ps (own s ps) ≡ Some y → ⊥) → isParent (beside (own s ps) (exit (here s ps))) (parent s ps (own s ps)) ≡ false
-  other-is-not-parent y i n = bool-false _ (λ t.
+  other-is-not-parent : (y : Megacell) → neighbour s ps ≡ Some y → (parent s ps (own s ps) ≡ Some y → ⊥) → isParent (neighbour s ps) (parent s ps (own s ps)) ≡ false
+  other-is-not-parent y i n = false-unless-true _ (λ t.
       let w = isParent-names-one _ _ t in
       let e : w .0 ≡ y = let a = w .1 in cc in
       n (w .2 ∙ ap Some e))

@@ -1,14 +1,17 @@
--- The invariant of a sweep, and that each advance keeps it.
+-- The laws of a history that the tour keeps from move to move, and the proof that each move keeps them.
+--
+-- The rest of the tour is planned at every moment: it is the contour of the tree of parents found so far. A first entry
+-- puts four subcells into the plan; every other move follows it.
 use mathlib.Core.Path.{_≡_, refl, sym, _∙_, ap, subst}
-use mathlib.Core.List.{List, [], _∷_, _++_}
-use mathlib.Core.Bool.{Bool, true, false, cond, not, _&&_, _||_}
-use mathlib.Core.Logic.{_⊎_, inl, inr}
+use mathlib.Core.List.{List, [], _∷_}
+use mathlib.Core.Bool.{Bool, true, false, not}
+use mathlib.Core.Logic.{inl, inr}
 use Rattle.std.specs.declared.option.Option.{Option}
 use Rattle.std.specs.declared.option.Option.the-variants.{Some, None}
-use Prim.Native.Nat.{ℕ, zero, suc, _+_, _-_, _*_, _≤_, _<_}
+use Prim.Native.Nat.{ℕ, _+_, _-_, _*_, _≤_}
 use native.Mathlib.Omega.{arith}
 use lib.ListN.{length}
-use Rattle.std.proofs.shelf.Tests.{both-ways, or-left, or-right, or-parts, or-cases}
+use Rattle.std.proofs.shelf.Tests.{both-ways}
 use Rattle.board.specs.declared.heading.Heading.{Heading}
 use Rattle.board.specs.declared.heading.Heading.the-variants.{North, East, South, West}
 use Rattle.board.specs.Headings.{sameHeading, headingNumber, left, right, opposite}
@@ -23,25 +26,27 @@ use Rattle.tour.specs.Rules.{isParent, absentOrOld}
 use Rattle.board.specs.Floors.{Floor, Lawful, Passes}
 use Rattle.tour.specs.Ground.{Ground, begin, across}
 use Rattle.tour.specs.Rules.{Move, ruled, nextMove}
-use Rattle.board.proofs.Geometry.{sameMegacell-true, sameMegacell-refl, samePlace-true, samePlace-refl, bools, sameHeading-refl, megacell-subcell, exit-subcell, subcell-own}
+use Rattle.board.proofs.Geometry.{sameMegacell-true, sameHeading-refl, megacell-subcell, exit-subcell, subcell-own}
 use Rattle.board.proofs.Geometry.{beside-back, beside-inj, turned, crossed, turn-ahead, cross-ahead, step-ahead, four-places}
-use Rattle.tour.proofs.History.{sameMegacell-sym, true-when-counted, bit-at-most-one, bit-of-either, here-is-old, old-stays-old, entered-is-old, newly-old-is-entered, entering-old-ages-none, parent-of-old-stays, parent-of-new-is-left, parent-stays-or-is-left}
+use Rattle.tour.proofs.History.{sameMegacell-sym, true-when-counted, bit-at-most-one, bit-of-either, false-unless-true, here-is-old, old-stays-old, entered-is-old, newly-old-is-entered, entering-old-ages-none, parent-of-new-is-left, parent-stays-or-is-left}
 use Rattle.tour.proofs.History.{leadsToParent, parent-when-isParent, isParent-names-one, same-isParent, planned, Plan, unexamined, head-is-in, tail-is-in, plan-stays, unexamined-stays, Departed}
 
--- ps: the places entered, the last first. rest: the rest of the tour. olds: the old megacells. l: the tourLooks
+-- `ps` are the places entered, the last first, `rest` is the plan, `olds` the old megacells, `l` the looks made.
 pub record Laws (floor : Floor) (s : Place) (ps rest : List Place) (olds : List Megacell) (l : ℕ) : Type 0 where
+  -- the plan leads from where the rover stands to the start
   pub plan : Plan s ps (here s ps) rest
+  -- the places entered and planned are the subcells of the old megacells, each once
   pub once : (a : Place) → many (samePlace a) ps + many (samePlace a) rest ≡ bit (old s ps (megacellOf a))
+  -- the list has each old megacell once, and there are four places for each
   pub list : (m : Megacell) → many (sameMegacell m) olds ≡ bit (old s ps m)
   pub size : length ps + length rest ≡ 4 * length olds
+  -- old megacells are in the ground; the side to a parent is open, and a parent is old
   pub ground : (m : Megacell) → old s ps m ≡ true → Ground floor s m
   pub parents : (m z : Megacell) (h : Heading) → parent s ps m ≡ Some z → beside m h ≡ Some z → (floor m h ≡ true) × (old s ps z ≡ true)
+  -- across the exit of a place that was left, if that side is open, the neighbour is old
   pub seen : (a : Place) → Departed s ps a → (y : Megacell) → beside (megacellOf a) (exit a) ≡ Some y → floor (megacellOf a) (exit a) ≡ true → old s ps y ≡ true
+  -- the looks made and still to be expected
   pub few : l + unexamined s ps (here s ps) rest ≤ 3 * length olds + 1
-
-bool-false : (b : Bool) → (b ≡ true → ⊥) → b ≡ false
-bool-false true f = absurd (f refl)
-bool-false false f = refl
 
 left-of-right : (e : Heading) → left (right e) ≡ e
 unfolding left right
@@ -92,7 +97,7 @@ left-is-not-opposite East = refl
 left-is-not-opposite South = refl
 left-is-not-opposite West = refl
 
--- what an advance by the move n gives
+-- what the next move gives: the laws of the longer history, and a step that may be made
 abbrev pub Advances : Floor → Place → List Place → ℕ → Move → Type 0
 Advances floor s ps l n = (rest : List Place) × (olds : List Megacell) × Laws floor s (step (n .heading) (here s ps) ∷ ps) rest olds (l + bit (n .looked)) × Passes floor (here s ps) (n .heading) (step (n .heading) (here s ps))
 
@@ -100,7 +105,7 @@ module _ (floor : Floor) (law : Lawful floor) (s : Place) where
   planned-is-old : (ps rest : List Place) (olds : List Megacell) (l : ℕ) → Laws floor s ps rest olds l → (a : Place) → 1 ≤ many (samePlace a) rest → old s ps (megacellOf a) ≡ true
   planned-is-old ps rest olds l v a h = true-when-counted _ (omega (arith, v .once a))
 
-  -- a move along the plan
+  -- rules 1 and 2, and rule 3 at a closed side: the move that was planned
   following-the-plan-keeps-laws : (ps rest : List Place) (b : Place) (olds : List Megacell) (l l′ : ℕ) → Laws floor s ps (b ∷ rest) olds l →
       ((y : Megacell) → beside (megacellOf (here s ps)) (exit (here s ps)) ≡ Some y → floor (megacellOf (here s ps)) (exit (here s ps)) ≡ true → old s ps y ≡ true) →
       l′ ≤ l + bit (not (leadsToParent s ps (here s ps))) → Laws floor s (b ∷ ps) rest olds l′
@@ -125,7 +130,7 @@ module _ (floor : Floor) (law : Lawful floor) (s : Place) where
         few = omega (arith, v .few, unexamined-stays s b ps b rest o all);
       }
 
-  -- The first entry of a megacell y, by the exit e of the place p in the megacell x.
+  -- Rule 3 at an open side: the first entry of the megacell y, by the exit e of a place in the megacell x.
   module _ (ps : List Place) (x y : Megacell) (e : Heading) (is-x : megacellOf (here s ps) ≡ x) (is-e : exit (here s ps) ≡ e)
       (besides : beside x e ≡ Some y) (new : old s ps y ≡ false) (g : Ground floor s x) where
     way-back : beside y (opposite e) ≡ Some x
@@ -139,7 +144,7 @@ module _ (floor : Floor) (law : Lawful floor) (s : Place) where
     leads-in-y k = rw (megacell-subcell y k, exit-subcell y k, parent-of-y)
 
     turns-in-y : (k : Heading) → sameHeading k (opposite e) ≡ false → leadsToParent s (subcell y (right e) ∷ ps) (subcell y k) ≡ false
-    turns-in-y k ne = leads-in-y k ∙ bool-false _ (λ t.
+    turns-in-y k ne = leads-in-y k ∙ false-unless-true _ (λ t.
         let w = isParent-names-one (beside y k) (Some x) t in
         let q : beside y k ≡ Some x = w .1 ∙ sym (w .2) in
         let r = beside-inj k (opposite e) y x q way-back in
