@@ -18,8 +18,8 @@ use Rattle.board.proofs.Geometry.{beside-back}
 use Rattle.tour.specs.History.{here, old, parent, home, walk, entered}
 use Rattle.tour.specs.Rules.{isParent, absentOrOld, ruled, nextMove}
 use Rattle.tour.specs.Ground.{Ground, Number}
-use Rattle.tour.specs.Tour.{tour, tourLooks, homeAfter, Underway}
-use Rattle.tour.specs.Examples.{isFree, between, shut, wide, LawsMet, one, two, three, square, at11, at33, letters, HomeBy, WorkedFloors}
+use Rattle.tour.specs.Tour.{tour, letters, tourLooks, homeAfter, Underway}
+use Rattle.tour.specs.Examples.{isFree, between, shut, wide, LawsMet, one, two, three, square, at11, at33, HomeBy, WorkedFloors}
 use Rattle.tour.proofs.Coverage.{covers}
 use Rattle.tour.proofs.Home.{tour-length}
 

@@ -1,20 +1,17 @@
 -- Floors worked by hand: the laws of a floor can be met, and on small floors the rules give the tours that a technician would draw.
 use mathlib.Core.Path.{_≡_}
-use mathlib.Core.List.{List, [], _∷_}
 use mathlib.Core.Bool.{Bool, true, false, _&&_, _||_}
 use Prim.Native.Nat.{ℕ, _+_, _*_}
 use lib.Chars.{codes}
 use lib.Dec.{eqb, lit<}
 use Rattle.std.specs.declared.option.Option.{Option}
 use Rattle.std.specs.declared.option.Option.the-variants.{Some, None}
-use Rattle.board.specs.declared.heading.Heading.{Heading}
 use Rattle.board.specs.declared.megacell.Megacell.{Megacell}
 use Rattle.board.specs.declared.place.Place.{Place}
-use Rattle.board.specs.Headings.{letter}
 use Rattle.board.specs.Steps.{beside}
 use Rattle.board.specs.Floors.{Floor, Lawful}
 use Rattle.tour.specs.Ground.{Ground, Number}
-use Rattle.tour.specs.Tour.{tour, tourLooks, homeAfter, Underway}
+use Rattle.tour.specs.Tour.{tour, letters, tourLooks, homeAfter, Underway}
 
 unfoldable pub isFree : (Megacell → Bool) → Option Megacell → Bool
 isFree free None = false
@@ -62,11 +59,6 @@ at11 = record { row = 1; column = 1; rows = lit< tt; columns = lit< tt }
 
 unfoldable pub at33 : Place
 at33 = record { row = 3; column = 3; rows = lit< tt; columns = lit< tt }
-
--- the letters of some moves
-unfoldable pub letters : List Heading → List ℕ
-letters [] = []
-letters (h ∷ hs) = letter h ∷ letters hs
 
 -- a tour that comes home by its nth move, with so many looks, on a ground of k megacells
 pub record HomeBy (floor : Floor) (s : Place) (n looks k : ℕ) : Type 0 where

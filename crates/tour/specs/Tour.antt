@@ -6,6 +6,7 @@ use Prim.Native.Nat.{ℕ, zero, suc, _+_, _*_, _≤_, _<_}
 use lib.ListN.{length}
 use Rattle.board.specs.declared.heading.Heading.{Heading}
 use Rattle.board.specs.declared.place.Place.{Place}
+use Rattle.board.specs.Headings.{letter}
 use Rattle.board.specs.Places.{megacellOf}
 use Rattle.board.specs.Steps.{step}
 use Rattle.board.specs.Counting.{bit}
@@ -19,24 +20,29 @@ unfoldable pub tour : Floor → Place → ℕ → List Heading
 tour floor s zero = []
 tour floor s (suc n) = tour floor s n ++ (nextMove floor s (entered s (tour floor s n)) .heading ∷ [])
 
--- the places that they enter, the last first
+-- the letters of some moves
+unfoldable pub letters : List Heading → List ℕ
+letters [] = []
+letters (h ∷ hs) = letter h ∷ letters hs
+
+-- the places that the first n moves enter, the last first
 abbrev pub visited : Floor → Place → ℕ → List Place
 visited floor s n = entered s (tour floor s n)
 
--- the move that comes after them
+-- the move that comes after the first n
 abbrev pub moveAfter : Floor → Place → ℕ → Move
 moveAfter floor s n = nextMove floor s (visited floor s n)
 
--- the looks made for them
+-- the looks made for the first n
 unfoldable pub tourLooks : Floor → Place → ℕ → ℕ
 tourLooks floor s zero = 0
 tourLooks floor s (suc n) = tourLooks floor s n + bit (moveAfter floor s n .looked)
 
--- whether they end home
+-- whether the first n end home
 abbrev pub homeAfter : Floor → Place → ℕ → Bool
 homeAfter floor s n = home s (visited floor s n)
 
--- none of them was made at home
+-- none of the first n was made at home
 abbrev pub Underway : Floor → Place → ℕ → Type 0
 Underway floor s n = (k : ℕ) → k < n → homeAfter floor s k ≡ false
 
