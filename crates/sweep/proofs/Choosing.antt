@@ -1,6 +1,6 @@
 -- What the table of marks makes a sweep choose, case by case; and the steps that no rover refuses.
-use mathlib.Core.Path.{_≡_, refl, sym, _∙_, ap}
-use mathlib.Core.Logic.{_⊎_, inl, inr}
+use mathlib.Core.Path.{_≡_, _∙_, ap}
+use mathlib.Core.Logic.{inl, inr}
 use mathlib.Core.List.{List}
 use mathlib.Core.Bool.{Bool, true, false, cond}
 use Rattle.std.specs.declared.option.Option.{Option}
@@ -11,7 +11,7 @@ use Rattle.board.specs.Headings.{left, right}
 use Rattle.board.specs.Places.{megacellOf}
 use Rattle.board.specs.Corners.{exit, subcell}
 use Rattle.board.specs.Steps.{beside, ahead}
-use Rattle.board.specs.Floors.{Floor, Passes}
+use Rattle.board.specs.Floors.{Floor}
 use Rattle.board.specs.declared.heading.Heading.{Heading}
 use Rattle.board.proofs.Geometry.{megacell-subcell, turn-ahead, cross-ahead}
 use Rattle.rover.specs.Drive.{Blocked}

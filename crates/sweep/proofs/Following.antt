@@ -2,8 +2,8 @@
 use mathlib.Core.Path.{_≡_, refl, sym, _∙_, ap, subst}
 use mathlib.Core.List.{List, [], _∷_}
 use mathlib.Core.Bool.{Bool, true, false, cond}
-use mathlib.Core.Logic.{_⊎_, inl, inr, _≢_}
-use Prim.Native.Nat.{ℕ, zero, suc, _+_, _*_, _≤_, _<_}
+use mathlib.Core.Logic.{inl, inr, _≢_}
+use Prim.Native.Nat.{ℕ, zero, suc, _+_}
 use native.Mathlib.Omega.{arith}
 use lib.ListN.{length, getD, set, replicate}
 use lib.Seq.{getD-set-same, getD-set-other}
@@ -13,7 +13,7 @@ use Rattle.std.proofs.shelf.Tests.{both-ways, cases-bool}
 use Rattle.board.specs.declared.heading.Heading.{Heading}
 use Rattle.board.specs.declared.megacell.Megacell.{Megacell}
 use Rattle.board.specs.declared.place.Place.{Place}
-use Rattle.board.specs.Headings.{left, right, opposite, sameHeading}
+use Rattle.board.specs.Headings.{left, opposite}
 use Rattle.board.specs.Places.{sameMegacell, megacellOf, numberOf}
 use Rattle.board.specs.Corners.{exit}
 use Rattle.board.specs.Steps.{beside, step}
@@ -21,7 +21,7 @@ use Rattle.board.specs.Counting.{bit}
 use Rattle.board.specs.Floors.{Floor}
 use Rattle.board.proofs.Geometry.{megacell-path, sameMegacell-true, sameMegacell-refl, sameHeading-true, megacell-subcell, turned, crossed, beside-back}
 use Rattle.tour.specs.History.{here, old, parent}
-use Rattle.tour.specs.Rules.{Move, isParent, absentOrOld, ruled, nextMove}
+use Rattle.tour.specs.Rules.{isParent, absentOrOld, ruled, nextMove}
 use Rattle.tour.specs.Ground.{Number}
 use Rattle.tour.proofs.History.{sameMegacell-sym, here-is-old, old-stays-old, entered-is-old, newly-old-is-entered, entering-old-ages-none, parent-of-old-stays, parent-of-new-is-left}
 use Rattle.tour.proofs.Means.{isParent-by-heading}

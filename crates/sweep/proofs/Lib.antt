@@ -1,3 +1,4 @@
 mod Choosing
 mod Following
 mod Telling
+mod Running

@@ -1,32 +1,31 @@
 -- From the code's facts to the promise.
 use mathlib.Core.Path.{_≡_, refl, sym, _∙_, ap, subst}
 use mathlib.Core.List.{List, [], _∷_}
-use mathlib.Core.Bool.{Bool, true, false, cond}
-use mathlib.Core.Logic.{_⊎_, inl, inr, _≢_}
-use Prim.Native.Nat.{ℕ, zero, suc, _+_, _-_, _*_, _≤_, _<_, min}
+use mathlib.Core.Bool.{Bool, true, false}
+use mathlib.Core.Logic.{inl, inr, _≢_}
+use Prim.Native.Nat.{ℕ, _+_, _-_, _*_, _≤_, _<_, min}
 use native.Mathlib.Omega.{arith}
-use lib.ListN.{length, getD, set, length-set}
+use lib.ListN.{length, set, length-set}
 use lib.Seq.{getD-set-same, getD-set-other}
 use Rattle.std.specs.declared.option.Option.{Option}
 use Rattle.std.specs.declared.option.Option.the-variants.{Some, None}
 use Rattle.std.specs.declared.result.Result.{Result}
 use Rattle.std.specs.declared.result.Result.the-variants.{Ok, Err}
 use Rattle.std.specs.Results.{Cases}
-use Rattle.std.proofs.shelf.Tests.{both-ways, cases-bool, cases-lt}
+use Rattle.std.proofs.shelf.Tests.{both-ways, cases-bool}
 use Rattle.board.specs.declared.heading.Heading.{Heading}
 use Rattle.board.specs.declared.megacell.Megacell.{Megacell}
 use Rattle.board.specs.declared.place.Place.{Place}
-use Rattle.board.specs.Places.{sameMegacell, samePlace, megacellOf, slotOf}
+use Rattle.board.specs.Places.{samePlace, megacellOf, slotOf}
 use Rattle.board.specs.Corners.{exit}
 use Rattle.board.specs.Steps.{step}
 use Rattle.board.specs.Counting.{bit, many}
 use Rattle.board.specs.Floors.{Floor, Lawful, Passes}
 use Rattle.board.proofs.Geometry.{place-path, samePlace-true, samePlace-refl, step-is}
 use Rattle.tour.specs.History.{here, old, home, walk, entered}
-use Rattle.tour.specs.Rules.{Move, nextMove}
-use Rattle.tour.specs.Ground.{Ground, Number}
-use Rattle.tour.specs.Tour.{tour, visited, moveAfter, tourLooks, homeAfter, Underway, Whole, Swept}
-use Rattle.tour.proofs.History.{bit-at-most-one, true-when-counted, sameMegacell-sym}
+use Rattle.tour.specs.Rules.{Move}
+use Rattle.tour.specs.Ground.{Number}
+use Rattle.tour.specs.Tour.{tour, visited, moveAfter, tourLooks, Underway}
 use Rattle.tour.proofs.Coverage.{covers}
 use Rattle.tour.proofs.Numbers.{one-number, at-most-1024, one-old-at-start}
 use Rattle.tour.proofs.Reach.{one-move-enters, one-move-looks, at-most-4096-moves, underway-one-more, home-at-four-a-megacell, not-home-before-four-a-megacell, ground-has-number}
@@ -38,10 +37,10 @@ use Rattle.chart.specs.Charts.{slotAt, Blank}
 use Rattle.sweep.specs.declared.mark.Mark.{Mark}
 use Rattle.sweep.specs.declared.fault.SweepFault.{SweepFault}
 use Rattle.sweep.specs.declared.sweep.Sweep.{Sweep}
-use Rattle.sweep.specs.Table.{choice, decided, found, isFound, marked, markAt, Says}
-use Rattle.sweep.specs.Promise.{Promise, OnChart, NextMove}
-use Rattle.sweep.specs.Journey.{Workings, Journey, Charts, Story}
-use Rattle.sweep.specs.Single.{countedIf, Steps, Still, Barred, Refuses, ByTable, chosen, opens, decidedFor, foundFor, Begun}
+use Rattle.sweep.specs.Table.{choice, decided, found, isFound, marked}
+use Rattle.sweep.specs.Promise.{Promise, NextMove}
+use Rattle.sweep.specs.Journey.{Journey, Charts}
+use Rattle.sweep.specs.Single.{countedIf, Steps, Barred, Refuses, ByTable, decidedFor, foundFor, Begun}
 use Rattle.sweep.proofs.Following.{Tells, After, decided-is, after-by}
 
 min-left : (a b : ℕ) → a ≤ b → min a b ≡ a
@@ -294,6 +293,9 @@ module _ {R A : Type 0} (G : Ghosts R A) (origin : R) (law : Lawful (G .floor or
 -- a step that the rover bars is a refusal of the advance
 pub barred-refuses : {R A : Type 0} {G : Ghosts R A} {sweep : Sweep R A} {h : Heading} {e : SweepFault} (slots : ℕ) → 4096 ≤ slots → sweep .home ≡ false → Barred G sweep h e → Refuses G sweep slots e
 barred-refuses {G = G} {sweep = sweep} {h = h} slots room far b = subst (λ (x : SweepFault). Refuses G sweep slots x) (sym (b .is)) (room, far, (h, record { blocked = b .blocked; is = refl }))
+
+pub at-err : {X Y : Type 0} (P : X → Type 0) (Q : Y → Type 0) (r : Result X Y) (e : Y) → r ≡ Err e → Q e → Cases r P Q
+at-err {X = X} {Y = Y} P Q r e i q = subst (λ (x : Result X Y). Cases x P Q) (sym i) q
 
 pub either-way : {X Y : Type 0} {S : Type 0} (r : Result X Y) → Cases r (λ _. S) (λ _. S) → S
 either-way (Ok x) s = s

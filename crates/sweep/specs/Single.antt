@@ -3,7 +3,7 @@ use mathlib.Core.Path.{_≡_}
 use mathlib.Core.List.{List, []}
 use mathlib.Core.Bool.{Bool, true, false}
 use mathlib.Core.Logic.{_⊎_}
-use Prim.Native.Nat.{ℕ, _+_, _≤_, _<_, min}
+use Prim.Native.Nat.{ℕ, zero, suc, _≤_, _<_}
 use lib.ListN.{length, set}
 use Rattle.std.specs.declared.option.Option.{Option}
 use Rattle.rover.specs.declared.meaning.Rover.{Ghosts}
@@ -76,7 +76,12 @@ Refuses G sweep slots (Chart e) = TooFew slots e
 Refuses G sweep slots Home = (4096 ≤ slots) × (sweep .home ≡ true)
 Refuses G sweep slots (Rover e) = (4096 ≤ slots) × (sweep .home ≡ false) × ((h : Heading) × Barred G sweep h (Rover e))
 
--- a run of n moves: as many letters, and nothing else of the buffer is written
+-- counted n times
+unfoldable pub countedBy : ℕ → ℕ → ℕ
+countedBy zero count = count
+countedBy (suc n) count = counted (countedBy n count)
+
+-- a run of n moves: each counted once, and no byte of the buffer written but the first n
 pub record Runs {R A : Type 0} (G : Ghosts R A) (sweep : Sweep R A) (slots : List (Slot A)) (tour : List ℕ) (after : Sweep R A) (slotsAfter : List (Slot A)) (tourAfter : List ℕ) (n : ℕ) : Type 0 where
   pub room : 4096 ≤ length slots
   pub fits : n ≤ length tour
@@ -85,8 +90,8 @@ pub record Runs {R A : Type 0} (G : Ghosts R A) (sweep : Sweep R A) (slots : Lis
   pub floor : G .floor (after .rover) ≡ G .floor (sweep .rover)
   pub field : G .field (after .rover) ≡ G .field (sweep .rover)
   pub start : after .start ≡ sweep .start
-  pub moves : after .moves ≡ min (sweep .moves + n) 4294967295
-  pub driven : G .moves (after .rover) ≡ min (G .moves (sweep .rover) + n) 4294967295
+  pub moves : after .moves ≡ countedBy n (sweep .moves)
+  pub driven : G .moves (after .rover) ≡ countedBy n (G .moves (sweep .rover))
 
 -- why a run is refused: the slots are too few, and nothing changed; or the rover refuses a step after some moves, which it never does in a sweep that was started
 abbrev pub RunRefuses : {R A : Type 0} → Ghosts R A → Sweep R A → List (Slot A) → List ℕ → Sweep R A → List (Slot A) → List ℕ → SweepFault → Type 0

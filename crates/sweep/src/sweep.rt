@@ -41,4 +41,5 @@ pub struct Record {
 
 mod advance;
 mod questions;
+mod run;
 mod start;
