@@ -1,0 +1,4 @@
+mod Choosing
+mod Following
+mod Telling
+mod Running

@@ -1,0 +1,9 @@
+pub mod History
+pub mod Rules
+pub mod Means
+pub mod Laws
+pub mod Coverage
+pub mod Numbers
+pub mod Home
+pub mod Reach
+pub mod Examples
