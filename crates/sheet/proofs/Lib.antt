@@ -1,0 +1,4 @@
+pub mod Splicing
+pub mod Numbers
+pub mod Wording
+pub mod Lining
