@@ -54,3 +54,92 @@ length-by c (x ∷ xs) h = elim (cases-eq c 63) [
 
 pub length-lined : (xs : List ℕ) → length (lined 0 xs) ≡ length xs + (length xs + 63) / 64
 length-lined xs = let l = length-by 0 xs (omega arith) in omega arith
+
+-- What is laid out while lines are written: the first `at` bytes of all the lines, and the letters from `from` on are to come.
+pub record Laid (s letters : List ℕ) (at from : ℕ) (t : List ℕ) : Type 0 where
+  pub within : from ≤ length letters
+  pub some : at ≤ length (lined 0 letters)
+  pub put : Put s 0 (take at (lined 0 letters)) t at
+  pub rest : lined 0 (drop from letters) ≡ drop at (lined 0 letters)
+
+pub laid-none : (s letters : List ℕ) → Laid s letters 0 0 s
+laid-none s letters = record { within = omega arith; some = omega arith; put = record { holds = refl; ends = refl }; rest = refl }
+
+-- the line of the letters from one offset to the next
+abbrev pub lineOf : List ℕ → ℕ → ℕ → List ℕ
+lineOf letters from to = lettersLine (take (to - from) (drop from letters))
+
+next-line : (letters : List ℕ) (from to : ℕ) → from < length letters → (to ≡ from + 64) ⊎ ((to ≡ length letters) × (length letters ≤ from + 64)) → lined 0 (drop from letters) ≡ lineOf letters from to ++ lined 0 (drop to letters)
+next-line letters from to h (inl e) =
+    let l = length-drop from letters in
+    let k : 0 < length (drop from letters) = omega arith in
+    let n : 64 ≡ to - from = omega arith in
+    let m : from + 64 ≡ to = omega arith in
+    first-line (drop from letters) k
+    ∙ ap (λ w. lettersLine (take w (drop from letters)) ++ lined 0 (drop 64 (drop from letters))) n
+    ∙ ap (λ w. lineOf letters from to ++ lined 0 w) (drop-drop 64 from letters ∙ ap (λ w. drop w letters) m)
+next-line letters from to h (inr e) =
+    let l = length-drop from letters in
+    let k : 0 < length (drop from letters) = omega arith in
+    first-line (drop from letters) k
+    ∙ ap (λ w. lettersLine w ++ lined 0 (drop 64 (drop from letters))) (take-all 64 (drop from letters) (omega arith) ∙ sym (take-all (to - from) (drop from letters) (omega arith)))
+    ∙ ap (λ w. lineOf letters from to ++ lined 0 w) (drop-all 64 (drop from letters) (omega arith) ∙ sym (drop-all to letters (omega arith)))
+
+cut : (all : List ℕ) (at : ℕ) (line rest : List ℕ) → drop at all ≡ line ++ rest → all ≡ (take at all ++ line) ++ rest
+cut all at line rest e = sym (take-append-drop at all) ∙ ap (λ w. take at all ++ w) e ∙ sym (append-assoc (take at all) line rest)
+
+front-length : (all : List ℕ) (at : ℕ) (line : List ℕ) → at ≤ length all → length (take at all ++ line) ≡ at + length line
+front-length all at line h = length-append (take at all) line ∙ ap (λ n. n + length line) (length-take-le at all h)
+
+-- the next line fits
+line-fits : (s letters t : List ℕ) (at from to : ℕ) → Laid s letters at from t → from < length letters → (to ≡ from + 64) ⊎ ((to ≡ length letters) × (length letters ≤ from + 64)) → at + length (lineOf letters from to) ≤ length (lined 0 letters)
+line-fits s letters t at from to l h e =
+    let a : ℕ = length (lineOf letters from to) in
+    let c : lined 0 letters ≡ (take at (lined 0 letters) ++ lineOf letters from to) ++ lined 0 (drop to letters) = cut (lined 0 letters) at (lineOf letters from to) (lined 0 (drop to letters)) (sym (l .rest) ∙ next-line letters from to h e) in
+    let f = front-length (lined 0 letters) at (lineOf letters from to) (l .some) in
+    let g = length-append (take at (lined 0 letters) ++ lineOf letters from to) (lined 0 (drop to letters)) in
+    let k : length (lined 0 letters) ≡ length ((take at (lined 0 letters) ++ lineOf letters from to) ++ lined 0 (drop to letters)) = ap length c in
+    omega arith
+
+same-length : (s t : List ℕ) (at k : ℕ) (a : List ℕ) → at + length a ≤ length s → Put s at a t k → length t ≡ length s
+same-length s t at k a h p = ap length (p .holds) ∙ length-written s at a h
+
+pub line-room : (s letters t : List ℕ) (at from to : ℕ) → Room s 0 (lined 0 letters) → Laid s letters at from t → from < length letters → (to ≡ from + 64) ⊎ ((to ≡ length letters) × (length letters ≤ from + 64)) → Room (take (length t - at) (drop at t)) 0 (lineOf letters from to)
+line-room s letters t at from to room l h e =
+    let f = line-fits s letters t at from to l h e in
+    let k = length-take-le at (lined 0 letters) (l .some) in
+    let g : length t ≡ length s = same-length s t 0 at (take at (lined 0 letters)) (omega arith) (l .put) in
+    let p = part-room t at (length (lineOf letters from to)) (omega arith) in
+    omega arith
+
+pub laid-more : (s letters t part : List ℕ) (at from to n : ℕ) → Room s 0 (lined 0 letters) → Laid s letters at from t → from < length letters → (to ≡ from + 64) ⊎ ((to ≡ length letters) × (length letters ≤ from + 64)) → to ≤ length letters →
+    Put (take (length t - at) (drop at t)) 0 (lineOf letters from to) part n → Laid s letters (at + n) to (putMid at (length t - at) t part)
+laid-more s letters t part at from to n room l h e w p =
+    let line : List ℕ = lineOf letters from to in
+    let all : List ℕ = lined 0 letters in
+    let f = line-fits s letters t at from to l h e in
+    let k = length-take-le at (lined 0 letters) (l .some) in
+    let g : length t ≡ length s = same-length s t 0 at (take at (lined 0 letters)) (omega arith) (l .put) in
+    let c : lined 0 letters ≡ (take at (lined 0 letters) ++ lineOf letters from to) ++ lined 0 (drop to letters) = cut (lined 0 letters) at (lineOf letters from to) (lined 0 (drop to letters)) (sym (l .rest) ∙ next-line letters from to h e) in
+    let fl = front-length (lined 0 letters) at (lineOf letters from to) (l .some) in
+    let pe : n ≡ length (lineOf letters from to) = omega (arith, p .ends) in
+    let fn : length (take at (lined 0 letters) ++ lineOf letters from to) ≡ at + n = omega arith in
+    let next : Put t at (lineOf letters from to) (putMid at (length t - at) t part) (at + n) = record {
+      holds = part-written t at (lineOf letters from to) part (omega arith) (p .holds);
+      ends = omega arith;
+    } in
+    let front : take (at + n) (lined 0 letters) ≡ take at (lined 0 letters) ++ lineOf letters from to = ap (take (at + n)) c ∙ take-at (take at (lined 0 letters) ++ lineOf letters from to) (lined 0 (drop to letters)) (at + n) fn in
+    let back : drop (at + n) (lined 0 letters) ≡ lined 0 (drop to letters) = ap (drop (at + n)) c ∙ drop-at (take at (lined 0 letters) ++ lineOf letters from to) (lined 0 (drop to letters)) (at + n) fn in
+    record {
+      within = w;
+      some = omega arith;
+      put = subst (λ x. Put s 0 x (putMid at (length t - at) t part) (at + n)) (sym front) (put-more s t (putMid at (length t - at) t part) 0 at (at + n) (take at (lined 0 letters)) (lineOf letters from to) (omega arith) (l .put) next);
+      rest = sym back;
+    }
+
+pub laid-all : (s letters t : List ℕ) (at from : ℕ) → length letters ≤ from → Laid s letters at from t → Put s 0 (lined 0 letters) t at
+laid-all s letters t at from h l =
+    let none : drop at (lined 0 letters) ≡ [] = sym (l .rest) ∙ ap (lined 0) (drop-all from letters h) ∙ none-lined in
+    let d = length-drop at (lined 0 letters) in
+    let z : length (drop at (lined 0 letters)) ≡ 0 = ap length none in
+    subst (λ x. Put s 0 x t at) (take-all at (lined 0 letters) (omega arith)) (l .put)
