@@ -143,3 +143,11 @@ laid-all s letters t at from h l =
     let d = length-drop at (lined 0 letters) in
     let z : length (drop at (lined 0 letters)) ≡ 0 = ap length none in
     subst (λ x. Put s 0 x t at) (take-all at (lined 0 letters) (omega arith)) (l .put)
+
+-- how long a text of three parts is, the letters in the middle
+pub length-around : (a xs b : List ℕ) → length (a ++ lined 0 xs ++ b) ≡ length a + (length xs + (length xs + 63) / 64) + length b
+length-around a xs b =
+    let l = length-lined xs in
+    let k = length-append a (lined 0 xs) in
+    let m = length-append (a ++ lined 0 xs) b in
+    omega arith

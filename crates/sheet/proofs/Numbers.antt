@@ -2,11 +2,12 @@
 use mathlib.Core.Path.{_≡_, sym, ap, subst, _∙_}
 use mathlib.Core.List.{List, [], _∷_, _++_}
 use Prim.Native.Nat.{ℕ, _+_, _/_, _%_, _^_, _<_, _≤_}
+use native.Mathlib.Omega.{arith}
 use lib.ListN.{length, length-append}
 use Rattle.std.specs.Written.{decimal}
 use Rattle.sheet.specs.Writing.{Room, Put}
 use Rattle.sheet.proofs.Splicing.{put-more}
-use Rattle.std.proofs.shelf.Decimals.{decimal-digit, decimal-step}
+use Rattle.std.proofs.shelf.Decimals.{decimal-digit, decimal-step, length-decimal-le}
 
 pub one-digit : (n : ℕ) → n < 10 → 1 ≡ length (decimal n)
 one-digit n h = ap length (sym (decimal-digit n h))
@@ -21,3 +22,6 @@ pub digits-put : (s t u : List ℕ) (at k r n : ℕ) → 10 ≤ n → n < 2 ^ 64
 digits-put s t u at k r n h b room p q =
     let e = decimal-step n h b in
     subst (λ d. Put s at d u r) (sym e) (put-more s t u at k r (decimal (n / 10)) ((48 + n % 10) ∷ []) (subst (λ d. Room s at d) e room) p q)
+
+pub few-digits : (n : ℕ) → n < 2 ^ 64 → length (decimal n) ≤ 20
+few-digits n h = length-decimal-le 20 n (omega arith) (omega arith) h

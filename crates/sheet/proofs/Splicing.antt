@@ -49,3 +49,10 @@ room-next s t at k a b h p =
     let l = length-append a b in
     let e : length t ≡ length s = ap length (p .holds) ∙ length-written s at a (omega arith) in
     omega (arith, p .ends)
+
+-- a text put at the front of the part from `at` on is put there
+pub part-put : (t : List ℕ) (at n : ℕ) (text part : List ℕ) → Room t at text → Put (take (length t - at) (drop at t)) 0 text part n → Put t at text (putMid at (length t - at) t part) (at + n)
+part-put t at n text part h p = record { holds = part-written t at text part h (p .holds); ends = omega (arith, p .ends) }
+
+pub room-part : (t : List ℕ) (at : ℕ) (text : List ℕ) → Room t at text → Room (take (length t - at) (drop at t)) 0 text
+room-part t at text h = let p = part-room t at (length text) h in omega arith

@@ -7,6 +7,7 @@ use native.Mathlib.Nat.{add-zero}
 use native.Mathlib.Numerals.{add-one}
 use lib.ListN.{length, getD, take, drop, length-append}
 use Rattle.std.specs.Joined.{joined}
+use Rattle.std.specs.Written.{decimal}
 use Rattle.std.proofs.shelf.Lists.{append-nil, take-append-drop, take-all}
 use Rattle.sheet.specs.Writing.{written, Room, Put}
 use Rattle.sheet.specs.Sheets.{spaced, worded}
@@ -65,3 +66,18 @@ end-room s t u k m i word numbers e room p q = room-next s u 0 m (word ++ joined
 pub line-put : (s t u v : List ℕ) (k m r i : ℕ) (word numbers : List ℕ) → i ≡ length numbers → Room s 0 (worded word numbers) → Put s 0 word t k → Put t k (joined spaced (take i numbers)) u m → Put u m (10 ∷ []) v r → Put s 0 (worded word numbers) v r
 line-put s t u v k m r i word numbers e room p q z =
     put-more s u v 0 m r (word ++ joined spaced numbers) (10 ∷ []) room (front-put s t u k m i word numbers e room p q) z
+
+-- how long the line is
+pub length-more : (numbers : List ℕ) (i : ℕ) → i < length numbers → length (joined spaced (take (i + 1) numbers)) ≡ length (joined spaced (take i numbers)) + (1 + length (decimal (getD numbers i 0)))
+length-more numbers i h =
+    let l = length-append (joined spaced (take i numbers)) (spaced (getD numbers i 0)) in
+    let k : length (joined spaced (take (i + 1) numbers)) ≡ length (joined spaced (take i numbers) ++ spaced (getD numbers i 0)) = ap length (one-more numbers i h) in
+    let s : length (spaced (getD numbers i 0)) ≡ suc (length (decimal (getD numbers i 0))) = refl in
+    omega arith
+
+pub length-worded : (word numbers : List ℕ) (i : ℕ) → i ≡ length numbers → length (worded word numbers) ≡ length word + length (joined spaced (take i numbers)) + 1
+length-worded word numbers i e =
+    let l = length-append word (joined spaced numbers) in
+    let k = length-append (word ++ joined spaced numbers) (10 ∷ []) in
+    let t : length (joined spaced (take i numbers)) ≡ length (joined spaced numbers) = ap (λ w. length (joined spaced w)) (take-all i numbers (omega arith)) in
+    omega arith
