@@ -14,7 +14,7 @@ megacell-at-requires c κs =
     (omega arith)
     (c .in-Some-first-from .ensures tt .within .1)
     (c .in-Some-first-from .ensures tt .within .2) in
-    (k .0, omega arith)
+    (omega arith, omega arith)
 
 pub returns : need.returns
 returns c =
