@@ -20,9 +20,10 @@ RowsLie =
     (m : List ℕ) (k : ℕ) → ((j : ℕ) → j < k → badRow m j ≡ false) → rowAt m k ≤ length m
     → ((j : ℕ) → j ≤ k → Begins m (rowAt m j)) × ((o : ℕ) → o ≤ rowAt m k → Begins m o → (j : ℕ) × (j ≤ k) × (o ≡ rowAt m j))
 
--- A drawing lies on its map: the byte in the start's row and column is the S, and each of the 1,024 megacells is what
--- the byte in its row and column draws.
+-- A drawing lies on its map: the byte in the start's row and column is the S, and the only one; and each of the 1,024
+-- megacells is what the byte in its row and column draws.
 pub record LiesOn (m : List ℕ) (d : Drawing) : Type 0 where
   pub start-column : d .start .column < width m
   pub start-byte : getD m (rowAt m (d .start .row) + d .start .column) 0 ≡ 83
+  pub only-start : (o : ℕ) → o < length m → getD m o 0 ≡ 83 → o ≡ rowAt m (d .start .row) + d .start .column
   pub each : (n : Megacell) → cellAt d n ≡ cellIn m (width m) (n .row) (n .column)
