@@ -1,0 +1,79 @@
+ghost use mathlib.Core.Path.{_≡_};
+ghost use mathlib.Core.Bool.{true};
+ghost use Rattle.std.specs.Results.{Cases};
+ghost use Rattle.std.specs.declared.option.Option.the-variants.{Some, None};
+ghost use Rattle.std.specs.declared.result.Result.the-variants.{Ok};
+ghost use Rattle.log_record.specs.Layout.{startOf, headerOf};
+ghost use Rattle.log_format.specs.Chain.{EndsInTime};
+ghost use Rattle.log_format.specs.Log.{refusal, accepts, recordOf, Reaching};
+use super::Lent;
+use super::Log;
+use crate::walk::walk;
+use board::megacell::Megacell;
+use board::megacell::methods::MegacellEq;
+use board::place::Place;
+use log_record::fault::LogFault;
+use log_record::header::Header;
+use log_record::header::read_header;
+use log_record::record::Record;
+use log_record::record::record_at;
+
+/// Reads a log: the bytes are followed along the chain once and stay lent. It ends on every input.
+pub fn read_log<'a>(bytes: &'a [u8]) -> Result<Lent<'a>, LogFault>
+    ensures is { λ r. ⌜ Cases r
+        (λ log. (log .bytes .now ≡ now (bytes .entry)) × (refusal (now (bytes .entry)) ≡ None))
+        (λ e. refusal (now (bytes .entry)) ≡ Some e) ⌝ }
+    ensures ends { λ _. ⌜ EndsInTime (now (bytes .entry)) ⌝ }
+{
+    let header = read_header(bytes)?;
+    walk(bytes, header)?;
+    Ok(Lent { bytes })
+}
+
+impl<'a> Lent<'a> {
+    /// The log that was read.
+    pub fn log(self) -> Log<'a>
+        requires { ⌜ refusal (self .bytes .now) ≡ None ⌝ }
+        ensures { λ r. ⌜ r .bytes .now ≡ self .entry .bytes .now ⌝ }
+    {
+        Log { bytes: self.bytes }
+    }
+}
+
+/// The record of a megacell, from an index of the chain on.
+fn seek(log: &[u8], index: u16, megacell: Megacell) -> Option<Record>
+    requires { ⌜ Reaching (now log) index megacell ⌝ }
+    ensures { λ r. ⌜ r ≡ recordOf (now (log .entry)) megacell ⌝ }
+{
+    let record = record_at(log, index)?;
+    if record.megacell == megacell {
+        return Some(record);
+    }
+    seek(log, record.next, megacell)
+}
+
+impl<'a> Log<'a> {
+    /// The header, which an accepted log has.
+    fn header(&self) -> Header
+        ensures { λ r. ⌜ headerOf (now (self .entry) .bytes .now) ≡ Ok r ⌝ }
+    {
+        match read_header(self.bytes) {
+            Ok(header) => header,
+            Err(_) => unreachable(),
+        }
+    }
+
+    /// Where the rover starts.
+    pub fn start(&self) -> Place
+        ensures { λ r. ⌜ startOf (now (self .entry) .bytes .now) ≡ Some r ⌝ }
+    {
+        self.header().start
+    }
+
+    /// The record of a megacell, if one of the chain tells of it.
+    pub fn record(&self, megacell: Megacell) -> Option<Record>
+        ensures { λ r. ⌜ r ≡ recordOf (now (self .entry) .bytes .now) megacell ⌝ }
+    {
+        seek(self.bytes, self.header().first, megacell)
+    }
+}
