@@ -103,12 +103,12 @@ no-record-zero b r e = let z : _≡_ {A = ℕ} 0 1 = cc in omega arith
 
 pub not-stop : (b : List ℕ) (j : ℕ) (r : Record) → accepts b ≡ true → j ≤ stop b → recordAt b (index b j) ≡ Some r → j < stop b
 not-stop b j r a h e =
-    elim (cases-lt j (stop b))
-    [ inl l ↦ l
-    | inr l ↦
-        let s : stop b ≡ j = omega arith in
-        let z : index b j ≡ 0 = subst (λ k. index b k ≡ 0) s (end-index b (stop b) (accepted-end b a)) in
-        absurd (no-record-zero b r (subst (λ k. recordAt b k ≡ Some r) z e))
+    elim (cases-lt j (stop b)) [
+      | inl l ↦ l
+      | inr l ↦
+          let s : stop b ≡ j = omega arith in
+          let z : index b j ≡ 0 = subst (λ k. index b k ≡ 0) s (end-index b (stop b) (accepted-end b a)) in
+          absurd (no-record-zero b r (subst (λ k. recordAt b k ≡ Some r) z e))
     ]
 
 -- The step of an index, by which a lookup ends: no index is followed twice.
@@ -169,12 +169,12 @@ found-later b at m r w e t =
     let f : recordAt b (index b (w .step)) ≡ Some r = subst (λ k. recordAt b k ≡ Some r) (w .goes) e in
     let l = before b at m r w e in
     let z : at ≡ 0 → ⊥ = λ q. no-record-zero b r (subst (λ k. recordAt b k ≡ Some r) q e) in
-    record
-    { accepted = w .accepted
-    ; step = w .step + 1
-    ; near = omega arith
-    ; goes = subst (λ k. r .next ≡ index b k) (sym (add-one (w .step))) (holds-next b at r z e ∙ ap (held b) (w .goes))
-    ; none = first-more (comesTo b m) (w .step) (w .none) (ap (λ o. tellsOf o m) f ∙ t)
+    record {
+      accepted = w .accepted;
+      step = w .step + 1;
+      near = omega arith;
+      goes = subst (λ k. r .next ≡ index b k) (sym (add-one (w .step))) (holds-next b at r z e ∙ ap (held b) (w .goes));
+      none = first-more (comesTo b m) (w .step) (w .none) (ap (λ o. tellsOf o m) f ∙ t);
     }
 
 pub nearer : (b : List ℕ) (at : ℕ) (m : Megacell) (r : Record) → Reaching b at m → recordAt b at ≡ Some r → sameMegacell (r .megacell) m ≡ false → stop b - stepAt b (r .next) < stop b - stepAt b at

@@ -80,14 +80,14 @@ none-visited b m = sym (ap isSome (first-zero (comesTo b m)))
 
 start-of : (b : List ℕ) (n : ℕ) → n ≡ 1024 → Walked b 0 (two b 2) (replicate n false)
 start-of b n e =
-    record
-    { steps = 0
-    ; came = refl
-    ; goes = refl
-    ; none = first-zero (stops b)
-    ; marks = λ m. getD-replicate n (numberOf m) false false (omega (arith, m .rows, m .columns)) ∙ none-visited b m
-    ; long = length-replicate n false ∙ e
-    ; left = omega (arith, count-replicate n)
+    record {
+      steps = 0;
+      came = refl;
+      goes = refl;
+      none = first-zero (stops b);
+      marks = λ m. getD-replicate n (numberOf m) false false (omega (arith, m .rows, m .columns)) ∙ none-visited b m;
+      long = length-replicate n false ∙ e;
+      left = omega (arith, count-replicate n);
     }
 
 pub walked-start : (b : List ℕ) → Walked b 0 (two b 2) (replicate 1024 false)
@@ -97,9 +97,9 @@ walked-start b = start-of b 1024 refl
 stops-at : (b : List ℕ) (j : ℕ) → first (stops b) j ≡ None → j ≤ 1024 → stops b j ≡ true → stop b ≡ j
 unfolding stop
 stops-at b j n h t =
-    elim (cases-lt j 1024)
-    [ inl l ↦ ap (λ o. orAt o 1024) (first-here (stops b) j 1024 n t l)
-    | inr l ↦ let e : j ≡ 1024 = omega arith in ap (λ o. orAt o 1024) (subst (λ k. first (stops b) k ≡ None) e n) ∙ sym e
+    elim (cases-lt j 1024) [
+      | inl l ↦ ap (λ o. orAt o 1024) (first-here (stops b) j 1024 n t l)
+      | inr l ↦ let e : j ≡ 1024 = omega arith in ap (λ o. orAt o 1024) (subst (λ k. first (stops b) k ≡ None) e n) ∙ sym e
     ]
 
 -- what is shown at each return: the refusal or none, and that the chain does stop
@@ -163,10 +163,10 @@ or-false false = refl
 
 marked : (seen : List Bool) (c m : Megacell) (t : Bool) → length seen ≡ 1024 → getD seen (numberOf m) false ≡ t → getD (set seen (numberOf c) true) (numberOf m) false ≡ t || sameMegacell c m
 marked seen c m t l e =
-    elim (cases-bool (sameMegacell c m))
-    [ inl s ↦ subst (λ x. getD (set seen (numberOf c) true) (numberOf x) false ≡ t || sameMegacell c x) (sameMegacell-true c m s)
-        (getD-set-same seen (numberOf c) true false (omega (arith, c .rows, c .columns)) ∙ or-true t ∙ sym (ap (λ x. t || x) (sameMegacell-refl c)))
-    | inr s ↦ getD-set-other seen (numberOf c) (numberOf m) true false (λ q. both-ways _ s (one-number c m (sym q))) ∙ e ∙ or-false t ∙ sym (ap (λ x. t || x) s)
+    elim (cases-bool (sameMegacell c m)) [
+      | inl s ↦ subst (λ x. getD (set seen (numberOf c) true) (numberOf x) false ≡ t || sameMegacell c x) (sameMegacell-true c m s)
+          (getD-set-same seen (numberOf c) true false (omega (arith, c .rows, c .columns)) ∙ or-true t ∙ sym (ap (λ x. t || x) (sameMegacell-refl c)))
+      | inr s ↦ getD-set-other seen (numberOf c) (numberOf m) true false (λ q. both-ways _ s (one-number c m (sym q))) ∙ e ∙ or-false t ∙ sym (ap (λ x. t || x) s)
     ]
 
 pub walked-more : (b : List ℕ) (h : Header) (from to : ℕ) (seen : List Bool) (r : Record) → headerOf b ≡ Ok h → Walked b from to seen → (to ≡ 0 → ⊥) → Ok r ≡ led b (h .count) from to → getD seen (numberOf (r .megacell)) false ≡ false → Walked b to (r .next) (set seen (numberOf (r .megacell)) true)
@@ -178,15 +178,15 @@ walked-more b h from to seen r g w z l s =
     let p : stepOf b j ≡ Ok (Some r) = step-comes b j r (λ q. z (w .goes ∙ q)) (l ∙ followed b h from to seen w g) ∙ ap (λ x. cond x (Err (SecondRecord (index b j))) (Ok (Some r))) v in
     let t : sumBy (λ x. cond (not x) 1 0) (set seen (numberOf (r .megacell)) true) + cond (not (getD seen (numberOf (r .megacell)) false)) 1 0 ≡ sumBy (λ x. cond (not x) 1 0) seen + 0 = sumBy-set (λ x. cond (not x) 1 0) seen (numberOf (r .megacell)) true false (omega (arith, w .long, r .megacell .rows, r .megacell .columns)) in
     let u : _≡_ {A = ℕ} (cond (not (getD seen (numberOf (r .megacell)) false)) 1 0) 1 = simp s in
-    record
-    { steps = j + 1
-    ; came = subst (λ k. to ≡ holder b k) (sym (add-one j)) (w .goes)
-    ; goes = subst (λ k. r .next ≡ index b k) (sym (add-one j)) (holds-next b to r z at ∙ ap (held b) (w .goes))
-    ; none = first-more (stops b) j (w .none) (ap (λ x. not (goesOn x)) p)
-    ; marks = λ m. subst (λ k. getD (set seen (numberOf (r .megacell)) true) (numberOf m) false ≡ visited b m k) (sym (add-one j))
-        (marked seen (r .megacell) m (visited b m j) (w .long) (w .marks m) ∙ sym (visited-more b m j ∙ ap (λ o. visited b m j || tellsOf o m) here))
-    ; long = simp length-set (w .long)
-    ; left = omega (arith, w .left)
+    record {
+      steps = j + 1;
+      came = subst (λ k. to ≡ holder b k) (sym (add-one j)) (w .goes);
+      goes = subst (λ k. r .next ≡ index b k) (sym (add-one j)) (holds-next b to r z at ∙ ap (held b) (w .goes));
+      none = first-more (stops b) j (w .none) (ap (λ x. not (goesOn x)) p);
+      marks = λ m. subst (λ k. getD (set seen (numberOf (r .megacell)) true) (numberOf m) false ≡ visited b m k) (sym (add-one j))
+          (marked seen (r .megacell) m (visited b m j) (w .long) (w .marks m) ∙ sym (visited-more b m j ∙ ap (λ o. visited b m j || tellsOf o m) here));
+      long = simp length-set (w .long);
+      left = omega (arith, w .left);
     }
 
 pub walked-less : (seen : List Bool) (m : Megacell) → length seen ≡ 1024 → getD seen (numberOf m) false ≡ false → countBy not (set seen (numberOf m) true) < countBy not seen
