@@ -2,11 +2,11 @@ ghost use mathlib.Core.Path.{_≡_};
 ghost use mathlib.Core.Bool.{_||_};
 ghost use Rattle.board.specs.Places.{megacellOf, sameMegacell};
 ghost use Rattle.log_floor.specs.Told.{toldOpen, toldBeside, floorOf, fieldOf};
-use crate::records::Records;
 use board::heading::Heading;
 use board::megacell::Megacell;
 use board::megacell::methods::MegacellEq;
 use board::place::Place;
+use log_format::records::Records;
 
 /// Whether a megacell has a record, and its record tells the side at a heading open.
 fn told_open<L: Records>(log: &L, megacell: Megacell, heading: Heading) -> bool

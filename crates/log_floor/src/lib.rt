@@ -1,4 +1,3 @@
 //! The floor that a log tells of, and a rover on it. The log stays lent.
 mod floor;
-pub mod records;
 pub mod rover;

@@ -1,5 +1,5 @@
-use crate::records::Records;
 use board::place::Place;
+use log_format::records::Records;
 
 /// A meter rover on the floor that a log tells of; it reads the counts of the log, in quarters of a lux.
 /// It has no copies: whoever holds it drives it.

@@ -2,4 +2,5 @@
 //! record of a megacell in an accepted log.
 pub mod known;
 pub mod log;
+pub mod records;
 mod walk;

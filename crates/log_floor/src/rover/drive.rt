@@ -5,9 +5,9 @@ use super::LogRover;
 use crate::floor::count_at;
 use crate::floor::is_open;
 use crate::floor::is_passable;
-use crate::records::Records;
 use board::heading::Heading;
 use board::place::Place;
+use log_format::records::Records;
 use rover::fault::RoverFault;
 use rover::meaning::Rover;
 

@@ -8,6 +8,7 @@ ghost use Rattle.log_format.specs.Chain.{EndsInTime};
 ghost use Rattle.log_format.specs.Log.{refusal, accepts, recordOf, Reaching};
 use super::Lent;
 use super::Log;
+use crate::records::Records;
 use crate::walk::walk;
 use board::megacell::Megacell;
 use board::megacell::methods::MegacellEq;
@@ -62,18 +63,19 @@ impl<'a> Log<'a> {
             Err(_) => unreachable(),
         }
     }
+}
 
-    /// Where the rover starts.
-    pub fn start(&self) -> Place
-        ensures { λ r. ⌜ startOf (now (self .entry) .bytes .now) ≡ Some r ⌝ }
-    {
-        self.header().start
+/// An accepted log tells what its bytes hold.
+pub impl<'a> Records for Log<'a> as LogRecords {
+    ghost told = { λ s. recordOf (s .bytes .now) };
+
+    ghost start = { λ s. startOf (s .bytes .now) };
+
+    fn record(&self, megacell: Megacell) -> Option<Record> {
+        seek(self.bytes, self.header().first, megacell)
     }
 
-    /// The record of a megacell, if one of the chain tells of it.
-    pub fn record(&self, megacell: Megacell) -> Option<Record>
-        ensures { λ r. ⌜ r ≡ recordOf (now (self .entry) .bytes .now) megacell ⌝ }
-    {
-        seek(self.bytes, self.header().first, megacell)
+    fn start(&self) -> Place {
+        self.header().start
     }
 }

@@ -4,11 +4,8 @@ ghost use Rattle.std.specs.declared.option.Option.the-variants.{Some};
 ghost use Rattle.board.specs.declared.megacell.Megacell.{Megacell};
 ghost use Rattle.board.specs.declared.place.Place.{Place};
 ghost use Rattle.log_record.specs.declared.record.Record.{Record};
-ghost use Rattle.log_record.specs.Layout.{startOf};
-ghost use Rattle.log_format.specs.Log.{recordOf};
 use board::megacell::Megacell;
 use board::place::Place;
-use log_format::log::Log;
 use log_record::record::Record;
 
 /// What a rover needs of a log: the record of each megacell that has one, and a start.
@@ -26,19 +23,4 @@ pub trait Records {
     /// The place to start at.
     fn start(&self) -> Place
         ensures { λ r. ⌜ start (now (self .entry)) ≡ Some r ⌝ };
-}
-
-/// A log that was accepted tells what its bytes hold.
-pub impl<'a> Records for Log<'a> as LogRecords {
-    ghost told = { λ s. recordOf (s .bytes .now) };
-
-    ghost start = { λ s. startOf (s .bytes .now) };
-
-    fn record(&self, megacell: Megacell) -> Option<Record> {
-        Log::record(self, megacell)
-    }
-
-    fn start(&self) -> Place {
-        Log::start(self)
-    }
 }

@@ -1,6 +1,6 @@
 use borrow.Author.Needs.{needs}
 use Rattle.log_format.proofs.Following.{from-start}
-use Rattle.log_format.proofs.log.Log.record.Needs as need
+use Rattle.log_format.proofs.log.methods.LogRecords.record.Needs as need
 
 pub seek-requires : need.seek-requires
 seek-requires c κs = from-start _ _ (c .args .megacell) (c .args .self .now .accepted) (c .header .ensures)
