@@ -1,6 +1,6 @@
 -- The floor and the field that a log tells of, given the record of each megacell that has one.
--- For a log of bytes b these records are `recordOf b`.
 use mathlib.Core.Bool.{Bool, false, _&&_}
+use mathlib.Core.List.{List}
 use Prim.Native.Nat.{ℕ}
 use Rattle.std.specs.declared.option.Option.{Option}
 use Rattle.std.specs.declared.option.Option.the-variants.{Some, None}
@@ -15,6 +15,7 @@ use Rattle.board.specs.Places.{megacellOf}
 use Rattle.board.specs.Steps.{beside}
 use Rattle.log_record.specs.declared.record.Record.{Record}
 use Rattle.log_record.specs.Tells.{opens, countAt}
+use Rattle.log_format.specs.Log.{recordOf}
 
 -- a megacell's record, if there is one, tells the side at a heading open
 abbrev pub toldOpen : Option Record → Heading → Bool
@@ -37,3 +38,10 @@ countOr0 None k = 0
 -- the reading at a place is the count of its subcell, in quarters of a lux; 0 where no record tells of its megacell
 unfoldable pub fieldOf : (Megacell → Option Record) → Place → ℕ
 fieldOf told p = countOr0 (told (megacellOf p)) (cornerOf p)
+
+-- the floor and the field of a log, as functions of its bytes
+abbrev pub logFloor : List ℕ → Floor
+logFloor b = floorOf (recordOf b)
+
+abbrev pub logField : List ℕ → Place → ℕ
+logField b = fieldOf (recordOf b)
