@@ -4,12 +4,13 @@ ghost use lib.ListN.{getD, set};
 ghost use Rattle.std.specs.Results.{Cases};
 ghost use Rattle.std.specs.declared.option.Option.the-variants.{Some, None};
 ghost use Rattle.std.specs.declared.result.Result.the-variants.{Ok};
-ghost use Rattle.board.specs.Places.{numberOf};
+ghost use Rattle.board.specs.Places.{megacellOf, numberOf};
 ghost use Rattle.log_record.specs.declared.fault.LogFault.the-variants.{SecondRecord};
 ghost use Rattle.log_record.specs.Layout.{headerOf};
 ghost use Rattle.log_format.specs.Chain.{led, stops, stop};
 ghost use Rattle.log_format.specs.Log.{refusal};
 use board::megacell::Megacell;
+use board::place::Place;
 use log_record::fault::LogFault;
 use log_record::header::Header;
 use log_record::record::Record;
@@ -42,6 +43,13 @@ fn mark(seen: &mut [bool; 1024], megacell: Megacell, index: u16) -> Result<(), L
     Ok(())
 }
 
+/// Whether the megacell that a place lies in is marked.
+fn is_marked(seen: &[bool; 1024], place: Place) -> bool
+    ensures { λ r. ⌜ r ≡ getD (now (seen .entry)) (numberOf (megacellOf place)) false ⌝ }
+{
+    seen[place.megacell().number()]
+}
+
 /// Goes along the chain to its end, and refuses at the first step that is none of a log's.
 pub(crate) fn walk(log: &[u8], header: Header) -> Result<(), LogFault>
     requires { ⌜ headerOf (now log) ≡ Ok header ⌝ }
@@ -57,7 +65,7 @@ pub(crate) fn walk(log: &[u8], header: Header) -> Result<(), LogFault>
         holder = index;
         index = record.next;
     }
-    if seen[header.start.megacell().number()] {
+    if is_marked(&seen, header.start) {
         Ok(())
     } else {
         Err(LogFault::StartUntold)

@@ -59,70 +59,20 @@ mod tests {
         log
     }
 
-    // worked logs
+    // eight zero bytes; the same with first index 1; one good record whose next is itself; a good log of one record
     #[test]
     fn worked_logs() -> Result<(), Fail> {
-        check(said(&[0, 0, 0, 0, 0, 0, 0, 0]) == (12, 0))?;
-        check(said(&[0, 0, 0, 1, 0, 0, 0, 0]) == (9, 0))?;
+        check(said(b"\x00\x00\x00\x00\x00\x00\x00\x00") == (12, 0))?;
+        check(said(b"\x00\x00\x00\x01\x00\x00\x00\x00") == (9, 0))?;
         check(
             said(
-                &[
-                    0,
-                    1,
-                    0,
-                    1,
-                    1,
-                    1,
-                    0,
-                    0,
-                    0,
-                    1,
-                    0,
-                    0,
-                    0,
-                    0,
-                    0,
-                    0,
-                    0,
-                    0,
-                    0,
-                    0,
-                    0,
-                    0,
-                    0,
-                    0,
-                ],
+                b"\x00\x01\x00\x01\x01\x01\x00\x00\x00\x01\x00\x00\x00\x00\x00\x00\x00\x00\x00\x00\x00\x00\x00\x00",
             )
                 == (11, 1),
         )?;
         check(
             said(
-                &[
-                    0,
-                    1,
-                    0,
-                    1,
-                    1,
-                    1,
-                    0,
-                    0,
-                    0,
-                    0,
-                    0,
-                    0,
-                    0,
-                    0,
-                    0,
-                    0,
-                    0,
-                    0,
-                    0,
-                    0,
-                    0,
-                    0,
-                    0,
-                    0,
-                ],
+                b"\x00\x01\x00\x01\x01\x01\x00\x00\x00\x00\x00\x00\x00\x00\x00\x00\x00\x00\x00\x00\x00\x00\x00\x00",
             )
                 == (0, 0),
         )
@@ -162,67 +112,14 @@ mod tests {
         check(count_of(&log, 0, 0) == 1)
     }
 
-    // Two records, start (1, 1): megacell (0, 0) tells its sides as given, megacell (0, 1) its west and north sides open.
-    // Behind them stands a third, off the chain, that no record may be like.
+    // Three records, start (1, 1). The second is the first of the chain: megacell (0, 1), which tells its north and west
+    // sides open. The first is the last: megacell (0, 0), with the sides given. The third is off the chain, and no
+    // record may be like it.
     fn two_records(sides: u8) -> [u8; 56] {
-        [
-            0,
-            3,
-            0,
-            2,
-            1,
-            1,
-            0,
-            0, // three records, the second first, start (1, 1)
-            0,
-            0,
-            0,
-            0,
-            sides,
-            0,
-            0,
-            0,
-            0,
-            4,
-            0,
-            8,
-            0,
-            12,
-            0,
-            16, // megacell (0, 0), the last
-            0,
-            1,
-            0,
-            1,
-            9,
-            0,
-            0,
-            0,
-            1,
-            0,
-            0,
-            0,
-            2,
-            1,
-            255,
-            255, // megacell (0, 1), the next is record 1
-            9,
-            9,
-            99,
-            99,
-            99,
-            9,
-            9,
-            9,
-            9,
-            9,
-            9,
-            9,
-            9,
-            9,
-            9,
-            9,
-        ]
+        let mut log =
+            *b"\x00\x03\x00\x02\x01\x01\x00\x00\x00\x00\x00\x00\x00\x00\x00\x00\x00\x04\x00\x08\x00\x0c\x00\x10\x00\x01\x00\x01\x09\x00\x00\x00\x01\x00\x00\x00\x02\x01\xff\xff\x09\x09\x63\x63\x63\x09\x09\x09\x09\x09\x09\x09\x09\x09\x09\x09";
+        log[12] = sides;
+        log
     }
 
     // a side told open from both its megacells is open, and the counts are read by the corner

@@ -56,7 +56,8 @@ fn seek(log: &[u8], index: u16, megacell: Megacell) -> Option<Record>
 impl<'a> Log<'a> {
     /// The header, which an accepted log has.
     fn header(&self) -> Header
-        ensures { λ r. ⌜ headerOf (now (self .entry) .bytes .now) ≡ Ok r ⌝ }
+        ensures is { λ r. ⌜ headerOf (now (self .entry) .bytes .now) ≡ Ok r ⌝ }
+        ensures start { λ r. ⌜ startOf (now (self .entry) .bytes .now) ≡ Some (r .start) ⌝ }
     {
         match read_header(self.bytes) {
             Ok(header) => header,

@@ -1,9 +1,7 @@
 use mathlib.Core.Path.{_≡_, ap, sym, subst, _∙_}
 use mathlib.Core.Bool.{true, false, not}
 use Prim.Native.Nat.{_<_}
-use lib.ListN.{getD}
 use Rattle.std.specs.shelf.Lists.{countBy}
-use Rattle.board.specs.Places.{megacellOf, numberOf}
 use borrow.Author.Needs.{needs}
 use Rattle.log_record.proofs.Headers.{header-tells}
 use Rattle.log_format.proofs.Walking.{Walked, walked-start, walked-refused, walked-again, walked-more, walked-less, walked-end}
@@ -34,14 +32,12 @@ loop-index-again c =
     subst (λ s. Walked (c .args .log .now) (c .loop-index .index) (c .in-Continue-record .record .next) s) (sym (m .1))
     (walked-more (c .args .log .now) (c .args .header) (c .loop-index .holder) (c .loop-index .index) (c .loop-index .seen) (c .in-Continue-record .record) (c .pre) (c .loop-index .inv) (c .loop-index-test .taken) (sym (c .in-Continue-record .was tt) ∙ c .led .ensures) (m .0))
 
-pub returns-then-seen-number : need.returns-then-seen-number
-returns-then-seen-number c =
-    let n : c .number .result ≡ numberOf (megacellOf (c .args .header .start)) = c .number .ensures .is ∙ ap numberOf (c .megacell .ensures) in
-    let k = walked-end (c .args .log .now) (c .args .header) (c .loop-index .holder) (c .loop-index .index) (c .loop-index .seen) true (c .pre) (c .loop-index .inv) (c .loop-index-test .left) (subst (λ i. getD (c .loop-index .seen) i false ≡ true) n (c .if-seen-number .taken)) in
+pub returns-then-is-marked : need.returns-then-is-marked
+returns-then-is-marked c =
+    let k = walked-end (c .args .log .now) (c .args .header) (c .loop-index .holder) (c .loop-index .index) (c .loop-index .seen) true (c .pre) (c .loop-index .inv) (c .loop-index-test .left) (sym (c .is-marked .ensures) ∙ c .if-is-marked .taken) in
     record { is = k .0; ends = k .1 }
 
-pub returns-else-seen-number : need.returns-else-seen-number
-returns-else-seen-number c =
-    let n : c .number .result ≡ numberOf (megacellOf (c .args .header .start)) = c .number .ensures .is ∙ ap numberOf (c .megacell .ensures) in
-    let k = walked-end (c .args .log .now) (c .args .header) (c .loop-index .holder) (c .loop-index .index) (c .loop-index .seen) false (c .pre) (c .loop-index .inv) (c .loop-index-test .left) (subst (λ i. getD (c .loop-index .seen) i false ≡ false) n (c .if-seen-number .left)) in
+pub returns-else-is-marked : need.returns-else-is-marked
+returns-else-is-marked c =
+    let k = walked-end (c .args .log .now) (c .args .header) (c .loop-index .holder) (c .loop-index .index) (c .loop-index .seen) false (c .pre) (c .loop-index .inv) (c .loop-index-test .left) (sym (c .is-marked .ensures) ∙ c .if-is-marked .left) in
     record { is = k .0; ends = k .1 }
