@@ -26,7 +26,7 @@ use Rattle.log_record.specs.Layout.{two, headerOf, recordAt}
 use Rattle.log_record.proofs.Headers.{header-tells}
 use Rattle.log_format.specs.Chain.{held, holder, index, tellsOf, comesTo, visited, orBad, led, unlessVisited, stepOf, goesOn, stops, orAt, stop, EndsInTime}
 use Rattle.log_format.specs.Log.{endedIn, afterHeader, refusal, isNone, accepts, recordIn, recordOf, Reaching}
-use Rattle.log_format.proofs.Walking.{holds-next, led-record}
+use Rattle.log_format.proofs.Walking.{holds-next, led-record, led-below}
 
 -- an accepted log has a header
 header-by : (b : List ℕ) (o : Result Header LogFault) → headerOf b ≡ o → isNone (afterHeader b o) ≡ true → (h : Header) × (headerOf b ≡ Ok h) × (isNone (endedIn b (megacellOf (h .start)) (stop b) (stepOf b (stop b))) ≡ true)
@@ -59,7 +59,7 @@ end-by b j false (Ok r) q = absurd (never-none (visited b (r .megacell) j) _ r q
 end-by b j false (Err f) q = cc
 
 -- the chain's end is index 0
-end-index : (b : List ℕ) (j : ℕ) → stepOf b j ≡ Ok None → index b j ≡ 0
+pub end-index : (b : List ℕ) (j : ℕ) → stepOf b j ≡ Ok None → index b j ≡ 0
 unfolding stepOf
 end-index b j q = eqb-true _ _ (end-by b j (eqb (index b j) 0) (led b (two b 0) (holder b j) (index b j)) q)
 
@@ -68,18 +68,19 @@ unvisited true e r q = sym q
 unvisited false e r q = refl
 
 -- what a step that goes on comes to
-pub record Comes (b : List ℕ) (j : ℕ) : Type 0 where
+pub record Reached (b : List ℕ) (j : ℕ) : Type 0 where
   pub to : Record
   pub at : recordAt b (index b j) ≡ Some to
+  pub below : index b j ≤ two b 0
   pub new : visited b (to .megacell) j ≡ false
   pub on : index b j ≡ 0 → ⊥
 
-comes-by : (b : List ℕ) (j : ℕ) (t : Bool) (l : Result Record LogFault) → eqb (index b j) 0 ≡ t → led b (two b 0) (holder b j) (index b j) ≡ l → goesOn (cond t (Ok None) (unlessVisited b j l)) ≡ true → Comes b j
+comes-by : (b : List ℕ) (j : ℕ) (t : Bool) (l : Result Record LogFault) → eqb (index b j) 0 ≡ t → led b (two b 0) (holder b j) (index b j) ≡ l → goesOn (cond t (Ok None) (unlessVisited b j l)) ≡ true → Reached b j
 comes-by b j true l e f q = absurd (both-ways false refl q)
-comes-by b j false (Ok r) e f q = record { to = r; at = led-record b (two b 0) (holder b j) (index b j) r (sym f); new = unvisited (visited b (r .megacell) j) _ r q; on = eqb-false _ _ e }
+comes-by b j false (Ok r) e f q = record { to = r; at = led-record b (two b 0) (holder b j) (index b j) r (sym f); below = led-below b (two b 0) (holder b j) (index b j) r (sym f); new = unvisited (visited b (r .megacell) j) _ r q; on = eqb-false _ _ e }
 comes-by b j false (Err g) e f q = absurd (both-ways false refl q)
 
-comes : (b : List ℕ) (j : ℕ) → goesOn (stepOf b j) ≡ true → Comes b j
+comes : (b : List ℕ) (j : ℕ) → goesOn (stepOf b j) ≡ true → Reached b j
 unfolding stepOf
 comes b j q = comes-by b j (eqb (index b j) 0) (led b (two b 0) (holder b j) (index b j)) refl refl q
 
@@ -88,7 +89,7 @@ before-by : (b : List ℕ) (j : ℕ) (o : Option ℕ) → first (stops b) 1024 �
 before-by b j (Some k) e h = first-some (stops b) 1024 k e .2 j h
 before-by b j None e h = first-none-at (stops b) 1024 j e h
 
-pub before-stop : (b : List ℕ) (j : ℕ) → j < stop b → Comes b j
+pub before-stop : (b : List ℕ) (j : ℕ) → j < stop b → Reached b j
 unfolding stop
 before-stop b j h = comes b j (not-false _ (before-by b j (first (stops b) 1024) refl h))
 
@@ -97,7 +98,7 @@ pub at-stop : (b : List ℕ) (j : ℕ) → j ≤ stop b → recordAt b (index b 
 at-stop b j h e =
     elim (cases-lt j (stop b)) [ inl l ↦ let k = before-stop b j l .at in cc | inr l ↦ omega arith ]
 
-no-record-zero : (b : List ℕ) (r : Record) → recordAt b 0 ≡ Some r → ⊥
+pub no-record-zero : (b : List ℕ) (r : Record) → recordAt b 0 ≡ Some r → ⊥
 unfolding recordAt
 no-record-zero b r e = let z : _≡_ {A = ℕ} 0 1 = cc in omega arith
 
@@ -116,7 +117,7 @@ not-stop b j r a h e =
 pub stepAt : List ℕ → ℕ → ℕ
 stepAt b k = orAt (first (λ j. eqb (index b j) k) (stop b)) (stop b)
 
-some-none : (o : Option ℕ) → isSome o ≡ false → o ≡ None
+pub some-none : (o : Option ℕ) → isSome o ≡ false → o ≡ None
 some-none (Some k) e = absurd (both-ways true e refl)
 some-none None e = refl
 

@@ -12,7 +12,7 @@ use lib.Seq.{getD-set-same, getD-set-other}
 use Rattle.std.specs.shelf.Lists.{countBy, sumBy}
 use Rattle.std.specs.Options.{isSome}
 use Rattle.std.proofs.shelf.Sums.{sumBy-set, sumBy-cons}
-use Rattle.std.proofs.shelf.Tests.{cases-lt, cases-bool, ne-eqb, eq-eqb, and-from, both-ways}
+use Rattle.std.proofs.shelf.Tests.{cases-lt, cases-bool, ltb-false, le-ltb, ne-eqb, eq-eqb, and-from, both-ways}
 use Rattle.std.specs.declared.option.Option.{Option}
 use Rattle.std.specs.declared.option.Option.the-variants.{Some, None}
 use Rattle.std.specs.declared.result.Result.{Result}
@@ -57,19 +57,33 @@ led-by None false e k r h = cc
 pub led-record : (b : List ℕ) (n from to : ℕ) (r : Record) → Ok r ≡ led b n from to → recordAt b to ≡ Some r
 led-record b n from to r h = led-by (recordAt b to) (ltb n to) _ to r h
 
+within-by : (o : Option Record) (t : Bool) (e : LogFault) (k : ℕ) (r : Record) → Ok r ≡ cond t (Err e) (orBad k o) → t ≡ false
+within-by (Some q) true e k r h = cc
+within-by (Some q) false e k r h = refl
+within-by None true e k r h = cc
+within-by None false e k r h = refl
+
+pub led-below : (b : List ℕ) (n from to : ℕ) (r : Record) → Ok r ≡ led b n from to → to ≤ n
+led-below b n from to r h = ltb-false _ _ (within-by (recordAt b to) (ltb n to) _ to r h)
+
+pub led-is : (b : List ℕ) (n from to : ℕ) (r : Record) → to ≤ n → recordAt b to ≡ Some r → Ok r ≡ led b n from to
+led-is b n from to r h e = let l : ltb n to ≡ false = le-ltb _ _ h in simp (l, e)
+
 pub holds-next : (b : List ℕ) (k : ℕ) (r : Record) → (k ≡ 0 → ⊥) → recordAt b k ≡ Some r → r .next ≡ held b k
 holds-next b zero r z e = absurd (z refl)
 holds-next b (suc k) r z e = let q = e in simp q
 
 -- what a walk knows after some steps, none of which stops
-pub record Walked (b : List ℕ) (from to : ℕ) (seen : List Bool) : Type 0 where
-  pub steps : ℕ
+pub record Walked (b : List ℕ) (steps from to : ℕ) (seen : List Bool) : Type 0 where
   pub came : from ≡ holder b steps
   pub goes : to ≡ index b steps
   pub none : first (stops b) steps ≡ None
   pub marks : (m : Megacell) → getD seen (numberOf m) false ≡ visited b m steps
   pub long : length seen ≡ 1024
   pub left : steps + countBy not seen ≡ 1024
+
+abbrev pub Walking : List ℕ → ℕ → ℕ → List Bool → Type 0
+Walking b from to seen = (steps : ℕ) × Walked b steps from to seen
 
 count-replicate : (n : ℕ) → countBy not (replicate n false) ≡ n
 count-replicate zero = refl
@@ -78,10 +92,9 @@ count-replicate (suc n) = sumBy-cons (λ x. cond (not x) 1 0) false (replicate n
 none-visited : (b : List ℕ) (m : Megacell) → false ≡ visited b m 0
 none-visited b m = sym (ap isSome (first-zero (comesTo b m)))
 
-start-of : (b : List ℕ) (n : ℕ) → n ≡ 1024 → Walked b 0 (two b 2) (replicate n false)
+start-of : (b : List ℕ) (n : ℕ) → n ≡ 1024 → Walked b 0 0 (two b 2) (replicate n false)
 start-of b n e =
     record {
-      steps = 0;
       came = refl;
       goes = refl;
       none = first-zero (stops b);
@@ -90,11 +103,11 @@ start-of b n e =
       left = omega (arith, count-replicate n);
     }
 
-pub walked-start : (b : List ℕ) → Walked b 0 (two b 2) (replicate 1024 false)
+pub walked-start : (b : List ℕ) → Walked b 0 0 (two b 2) (replicate 1024 false)
 walked-start b = start-of b 1024 refl
 
 -- the walk ends where it stops
-stops-at : (b : List ℕ) (j : ℕ) → first (stops b) j ≡ None → j ≤ 1024 → stops b j ≡ true → stop b ≡ j
+pub stops-at : (b : List ℕ) (j : ℕ) → first (stops b) j ≡ None → j ≤ 1024 → stops b j ≡ true → stop b ≡ j
 unfolding stop
 stops-at b j n h t =
     elim (cases-lt j 1024) [
@@ -110,32 +123,32 @@ refusal-at : (b : List ℕ) (h : Header) → headerOf b ≡ Ok h → refusal b �
 unfolding refusal
 refusal-at b h e = ap (afterHeader b) e
 
-at-stop : (b : List ℕ) (h : Header) (from to : ℕ) (seen : List Bool) (w : Walked b from to seen) (s : Result (Option Record) LogFault) → headerOf b ≡ Ok h → stepOf b (w .steps) ≡ s → goesOn s ≡ false → Stopped b (endedIn b (megacellOf (h .start)) (w .steps) s)
-at-stop b h from to seen w s e q g =
-    let t : stops b (w .steps) ≡ true = ap (λ x. not (goesOn x)) q ∙ ap not g in
-    let at = stops-at b (w .steps) (w .none) (omega (arith, w .left)) t in
-    (refusal-at b h e ∙ ap (λ k. endedIn b (megacellOf (h .start)) k (stepOf b k)) at ∙ ap (endedIn b (megacellOf (h .start)) (w .steps)) q, subst (λ k. stops b k ≡ true) (sym at) t)
+at-stop : (b : List ℕ) (h : Header) (j from to : ℕ) (seen : List Bool) (w : Walked b j from to seen) (s : Result (Option Record) LogFault) → headerOf b ≡ Ok h → stepOf b (j) ≡ s → goesOn s ≡ false → Stopped b (endedIn b (megacellOf (h .start)) (j) s)
+at-stop b h j from to seen w s e q g =
+    let t : stops b (j) ≡ true = ap (λ x. not (goesOn x)) q ∙ ap not g in
+    let at = stops-at b (j) (w .none) (omega (arith, w .left)) t in
+    (refusal-at b h e ∙ ap (λ k. endedIn b (megacellOf (h .start)) k (stepOf b k)) at ∙ ap (endedIn b (megacellOf (h .start)) (j)) q, subst (λ k. stops b k ≡ true) (sym at) t)
 
 -- what the walk follows is what the step follows
-followed : (b : List ℕ) (h : Header) (from to : ℕ) (seen : List Bool) (w : Walked b from to seen) → headerOf b ≡ Ok h → led b (h .count) from to ≡ led b (two b 0) (holder b (w .steps)) (index b (w .steps))
-followed b h from to seen w e =
-    ap (λ n. led b n from to) (header-tells b h e .0) ∙ ap (λ f. led b (two b 0) f to) (w .came) ∙ ap (led b (two b 0) (holder b (w .steps))) (w .goes)
+followed : (b : List ℕ) (h : Header) (j from to : ℕ) (seen : List Bool) (w : Walked b j from to seen) → headerOf b ≡ Ok h → led b (h .count) from to ≡ led b (two b 0) (holder b (j)) (index b (j))
+followed b h j from to seen w e =
+    ap (λ n. led b n from to) (header-tells b h e .0) ∙ ap (λ f. led b (two b 0) f to) (w .came) ∙ ap (led b (two b 0) (holder b (j))) (w .goes)
 
-pub walked-refused : (b : List ℕ) (h : Header) (from to : ℕ) (seen : List Bool) (e : LogFault) → headerOf b ≡ Ok h → Walked b from to seen → (to ≡ 0 → ⊥) → Err e ≡ led b (h .count) from to → Stopped b (Some e)
-walked-refused b h from to seen e g w z l =
-    at-stop b h from to seen w (Err e) g (step-refused b (w .steps) e (λ q. z (w .goes ∙ q)) (l ∙ followed b h from to seen w g)) refl
+pub walked-refused : (b : List ℕ) (h : Header) (j from to : ℕ) (seen : List Bool) (e : LogFault) → headerOf b ≡ Ok h → Walked b j from to seen → (to ≡ 0 → ⊥) → Err e ≡ led b (h .count) from to → Stopped b (Some e)
+walked-refused b h j from to seen e g w z l =
+    at-stop b h j from to seen w (Err e) g (step-refused b (j) e (λ q. z (w .goes ∙ q)) (l ∙ followed b h j from to seen w g)) refl
 
-pub walked-again : (b : List ℕ) (h : Header) (from to : ℕ) (seen : List Bool) (r : Record) → headerOf b ≡ Ok h → Walked b from to seen → (to ≡ 0 → ⊥) → Ok r ≡ led b (h .count) from to → getD seen (numberOf (r .megacell)) false ≡ true → Stopped b (Some (SecondRecord to))
-walked-again b h from to seen r g w z l t =
-    let v : visited b (r .megacell) (w .steps) ≡ true = sym (w .marks (r .megacell)) ∙ t in
-    let s = step-comes b (w .steps) r (λ q. z (w .goes ∙ q)) (l ∙ followed b h from to seen w g) in
-    let q : stepOf b (w .steps) ≡ Err (SecondRecord to) = s ∙ ap (λ x. cond x (Err (SecondRecord (index b (w .steps)))) (Ok (Some r))) v ∙ ap (λ k. Err (SecondRecord k)) (sym (w .goes)) in
-    at-stop b h from to seen w (Err (SecondRecord to)) g q refl
+pub walked-again : (b : List ℕ) (h : Header) (j from to : ℕ) (seen : List Bool) (r : Record) → headerOf b ≡ Ok h → Walked b j from to seen → (to ≡ 0 → ⊥) → Ok r ≡ led b (h .count) from to → getD seen (numberOf (r .megacell)) false ≡ true → Stopped b (Some (SecondRecord to))
+walked-again b h j from to seen r g w z l t =
+    let v : visited b (r .megacell) (j) ≡ true = sym (w .marks (r .megacell)) ∙ t in
+    let s = step-comes b (j) r (λ q. z (w .goes ∙ q)) (l ∙ followed b h j from to seen w g) in
+    let q : stepOf b (j) ≡ Err (SecondRecord to) = s ∙ ap (λ x. cond x (Err (SecondRecord (index b (j)))) (Ok (Some r))) v ∙ ap (λ k. Err (SecondRecord k)) (sym (w .goes)) in
+    at-stop b h j from to seen w (Err (SecondRecord to)) g q refl
 
-pub walked-end : (b : List ℕ) (h : Header) (from to : ℕ) (seen : List Bool) (t : Bool) → headerOf b ≡ Ok h → Walked b from to seen → to ≡ 0 → getD seen (numberOf (megacellOf (h .start))) false ≡ t → Stopped b (cond t None (Some StartUntold))
-walked-end b h from to seen t g w z s =
-    let v : visited b (megacellOf (h .start)) (w .steps) ≡ t = sym (w .marks (megacellOf (h .start))) ∙ s in
-    let p = at-stop b h from to seen w (Ok None) g (step-end b (w .steps) (sym (w .goes) ∙ z)) refl in
+pub walked-end : (b : List ℕ) (h : Header) (j from to : ℕ) (seen : List Bool) (t : Bool) → headerOf b ≡ Ok h → Walked b j from to seen → to ≡ 0 → getD seen (numberOf (megacellOf (h .start))) false ≡ t → Stopped b (cond t None (Some StartUntold))
+walked-end b h j from to seen t g w z s =
+    let v : visited b (megacellOf (h .start)) (j) ≡ t = sym (w .marks (megacellOf (h .start))) ∙ s in
+    let p = at-stop b h j from to seen w (Ok None) g (step-end b (j) (sym (w .goes) ∙ z)) refl in
     (p .0 ∙ ap (λ x. cond x None (Some StartUntold)) v, p .1)
 
 -- Marking one more megacell.
@@ -169,17 +182,21 @@ marked seen c m t l e =
       | inr s ↦ getD-set-other seen (numberOf c) (numberOf m) true false (λ q. both-ways _ s (one-number c m (sym q))) ∙ e ∙ or-false t ∙ sym (ap (λ x. t || x) s)
     ]
 
-pub walked-more : (b : List ℕ) (h : Header) (from to : ℕ) (seen : List Bool) (r : Record) → headerOf b ≡ Ok h → Walked b from to seen → (to ≡ 0 → ⊥) → Ok r ≡ led b (h .count) from to → getD seen (numberOf (r .megacell)) false ≡ false → Walked b to (r .next) (set seen (numberOf (r .megacell)) true)
-walked-more b h from to seen r g w z l s =
-    let j = w .steps in
+-- one megacell fewer is unmarked
+one-less : (seen : List Bool) (m : Megacell) → length seen ≡ 1024 → getD seen (numberOf m) false ≡ false → countBy not (set seen (numberOf m) true) + 1 ≡ countBy not seen
+one-less seen m l s =
+    let t : sumBy (λ x. cond (not x) 1 0) (set seen (numberOf m) true) + cond (not (getD seen (numberOf m) false)) 1 0 ≡ sumBy (λ x. cond (not x) 1 0) seen + 0 = sumBy-set (λ x. cond (not x) 1 0) seen (numberOf m) true false (omega (arith, m .rows, m .columns)) in
+    let u : _≡_ {A = ℕ} (cond (not (getD seen (numberOf m) false)) 1 0) 1 = simp s in
+    omega arith
+
+pub walked-more : (b : List ℕ) (h : Header) (j from to : ℕ) (seen : List Bool) (r : Record) → headerOf b ≡ Ok h → Walked b j from to seen → (to ≡ 0 → ⊥) → Ok r ≡ led b (h .count) from to → getD seen (numberOf (r .megacell)) false ≡ false → Walked b (j + 1) to (r .next) (set seen (numberOf (r .megacell)) true)
+walked-more b h j from to seen r g w z l s =
     let at : recordAt b to ≡ Some r = led-record b (h .count) from to r l in
     let here : recordAt b (index b j) ≡ Some r = subst (λ k. recordAt b k ≡ Some r) (w .goes) at in
     let v : visited b (r .megacell) j ≡ false = sym (w .marks (r .megacell)) ∙ s in
-    let p : stepOf b j ≡ Ok (Some r) = step-comes b j r (λ q. z (w .goes ∙ q)) (l ∙ followed b h from to seen w g) ∙ ap (λ x. cond x (Err (SecondRecord (index b j))) (Ok (Some r))) v in
-    let t : sumBy (λ x. cond (not x) 1 0) (set seen (numberOf (r .megacell)) true) + cond (not (getD seen (numberOf (r .megacell)) false)) 1 0 ≡ sumBy (λ x. cond (not x) 1 0) seen + 0 = sumBy-set (λ x. cond (not x) 1 0) seen (numberOf (r .megacell)) true false (omega (arith, w .long, r .megacell .rows, r .megacell .columns)) in
-    let u : _≡_ {A = ℕ} (cond (not (getD seen (numberOf (r .megacell)) false)) 1 0) 1 = simp s in
+    let p : stepOf b j ≡ Ok (Some r) = step-comes b j r (λ q. z (w .goes ∙ q)) (l ∙ followed b h j from to seen w g) ∙ ap (λ x. cond x (Err (SecondRecord (index b j))) (Ok (Some r))) v in
+    let o = one-less seen (r .megacell) (w .long) s in
     record {
-      steps = j + 1;
       came = subst (λ k. to ≡ holder b k) (sym (add-one j)) (w .goes);
       goes = subst (λ k. r .next ≡ index b k) (sym (add-one j)) (holds-next b to r z at ∙ ap (held b) (w .goes));
       none = first-more (stops b) j (w .none) (ap (λ x. not (goesOn x)) p);
@@ -190,7 +207,4 @@ walked-more b h from to seen r g w z l s =
     }
 
 pub walked-less : (seen : List Bool) (m : Megacell) → length seen ≡ 1024 → getD seen (numberOf m) false ≡ false → countBy not (set seen (numberOf m) true) < countBy not seen
-walked-less seen m l s =
-    let t : sumBy (λ x. cond (not x) 1 0) (set seen (numberOf m) true) + cond (not (getD seen (numberOf m) false)) 1 0 ≡ sumBy (λ x. cond (not x) 1 0) seen + 0 = sumBy-set (λ x. cond (not x) 1 0) seen (numberOf m) true false (omega (arith, m .rows, m .columns)) in
-    let u : _≡_ {A = ℕ} (cond (not (getD seen (numberOf m) false)) 1 0) 1 = simp s in
-    omega arith
+walked-less seen m l s = omega (arith, one-less seen m l s)

@@ -4,7 +4,7 @@ use Rattle.firsts.specs.First.{first}
 use Rattle.log_record.specs.Layout.{headerOf, recordAt}
 use Rattle.log_format.specs.Chain.{stepOf, stop}
 use Rattle.log_format.specs.Log.{refusal}
-use Rattle.log_format.proofs.known.known_logs_stand.Needs as need
+use Rattle.log_format.proofs.theorems.known_logs_stand.Needs as need
 
 pub returns : need.returns
 unfolding placed celled megacellOf sameMegacell first headerOf recordAt stepOf stop refusal

@@ -9,7 +9,7 @@ use Rattle.log_record.specs.Tells.{opens, countAt}
 use Rattle.log_format.specs.Chain.{stepOf, stop}
 use Rattle.log_format.specs.Log.{recordOf}
 use Rattle.log_floor.specs.Told.{floorOf, fieldOf}
-use Rattle.log_floor.proofs.known.known_log_floor_stands.Needs as need
+use Rattle.log_floor.proofs.theorems.known_log_floor_stands.Needs as need
 
 pub returns : need.returns
 unfolding cornerOf cornerBy opposite headingNumber placed celled megacellOf sameMegacell beside first headerOf recordAt opens countAt stepOf stop recordOf floorOf fieldOf
