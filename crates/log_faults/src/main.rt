@@ -9,7 +9,7 @@ ghost use Rattle.log_format.specs.Log.{refusal};
 ghost use Rattle.log_faults.specs.Hex.{digitOf};
 ghost use Rattle.log_faults.specs.Said.{saidOf, refusedLine};
 use fault::Fault;
-use log_format::log::methods::read_log;
+use log_format::log::Log;
 use log_record::fault::LogFaultTells;
 use std::alloc::AllocError;
 use std::alloc::Global;
@@ -54,7 +54,7 @@ fn refused(heap: Global, name: &str, number: u8, place: usize) -> Result<String,
 fn said(heap: Global, name: &str, log: &[u8]) -> Result<String, AllocError>
     ensures { λ r. ⌜ made r (λ s. string-bytes s ≡ now (name .entry) ++ saidOf (toldOf (refusal (now (log .entry))))) ⌝ }
 {
-    match read_log(log) {
+    match Log::read(log) {
         Ok(_) => format!(heap, "{name}: accepted"),
         Err(fault) => refused(heap, name, fault.number(), fault.place()),
     }

@@ -1,9 +1,9 @@
 -- When a step passes, and the two laws of the floor that a log tells of.
 use mathlib.Core.Path.{_≡_, refl, sym, _∙_, ap}
 use mathlib.Core.Bool.{Bool, true, false, _&&_, _||_}
-use mathlib.Core.Logic.{_⊎_, inl, inr}
+use mathlib.Core.Logic.{inl, inr}
 use Rattle.std.specs.declared.option.Option.{Option}
-use Rattle.std.specs.declared.option.Option.the-variants.{Some, None}
+use Rattle.std.specs.declared.option.Option.the-variants.{Some}
 use Rattle.std.proofs.shelf.Tests.{both-ways, or-cases, or-left, or-right}
 use Rattle.board.specs.declared.heading.Heading.{Heading}
 use Rattle.board.specs.declared.heading.Heading.the-variants.{North, East, South, West}
@@ -11,7 +11,7 @@ use Rattle.board.specs.declared.megacell.Megacell.{Megacell}
 use Rattle.board.specs.declared.place.Place.{Place}
 use Rattle.board.specs.Headings.{opposite}
 use Rattle.board.specs.Places.{megacellOf, sameMegacell}
-use Rattle.board.specs.Steps.{ahead, beside}
+use Rattle.board.specs.Steps.{ahead}
 use Rattle.board.specs.Floors.{Floor, Passes, SameFromBoth, ClosedAtEdge}
 use Rattle.board.proofs.Geometry.{sameMegacell-true, sameMegacell-refl, beside-back}
 use Rattle.log_record.specs.declared.record.Record.{Record}

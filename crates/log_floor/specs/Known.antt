@@ -2,7 +2,7 @@
 use mathlib.Core.Path.{_≡_}
 use mathlib.Core.Bool.{true, false}
 use mathlib.Core.List.{List, [], _∷_}
-use Prim.Native.Nat.{ℕ, _<_}
+use Prim.Native.Nat.{ℕ}
 use lib.Dec.{T, ltb, ltb→lt}
 use Rattle.board.specs.declared.heading.Heading.the-variants.{North, East, South, West}
 use Rattle.board.specs.declared.megacell.Megacell.{Megacell}

@@ -1,14 +1,14 @@
 -- What acceptance tells of the chain, for a lookup along it.
 use mathlib.Core.Path.{_≡_, refl, sym, ap, subst, _∙_}
-use mathlib.Core.Bool.{Bool, true, false, not, cond}
-use mathlib.Core.Logic.{_⊎_, inl, inr}
+use mathlib.Core.Bool.{Bool, true, false, cond}
+use mathlib.Core.Logic.{inl, inr}
 use mathlib.Core.List.{List}
-use Prim.Native.Nat.{ℕ, zero, suc, _+_, _-_, _<_, _≤_}
+use Prim.Native.Nat.{ℕ, _+_, _-_, _<_, _≤_}
 use native.Mathlib.Omega.{arith}
 use native.Mathlib.Numerals.{add-one}
-use lib.Dec.{ltb, eqb}
+use lib.Dec.{eqb}
 use Rattle.std.specs.Options.{isSome}
-use Rattle.std.proofs.shelf.Tests.{cases-lt, cases-bool, not-false, eq-eqb, ne-eqb, eqb-true, eqb-false, both-ways}
+use Rattle.std.proofs.shelf.Tests.{cases-lt, not-false, eq-eqb, ne-eqb, eqb-true, eqb-false, both-ways}
 use Rattle.std.specs.declared.option.Option.{Option}
 use Rattle.std.specs.declared.option.Option.the-variants.{Some, None}
 use Rattle.std.specs.declared.result.Result.{Result}
@@ -19,12 +19,11 @@ use Rattle.board.proofs.Geometry.{sameMegacell-refl}
 use Rattle.firsts.specs.First.{first}
 use Rattle.firsts.proofs.Firsts.{first-zero, first-more, first-here, first-some, first-none, first-none-at}
 use Rattle.log_record.specs.declared.fault.LogFault.{LogFault}
-use Rattle.log_record.specs.declared.fault.LogFault.the-variants.{IndexBeyond, SecondRecord, StartUntold}
 use Rattle.log_record.specs.declared.header.Header.{Header}
 use Rattle.log_record.specs.declared.record.Record.{Record}
 use Rattle.log_record.specs.Layout.{two, headerOf, recordAt}
 use Rattle.log_record.proofs.Headers.{header-tells}
-use Rattle.log_format.specs.Chain.{held, holder, index, tellsOf, comesTo, visited, orBad, led, unlessVisited, stepOf, goesOn, stops, orAt, stop, EndsInTime}
+use Rattle.log_format.specs.Chain.{held, holder, index, tellsOf, comesTo, visited, led, unlessVisited, stepOf, goesOn, stops, orAt, stop}
 use Rattle.log_format.specs.Log.{endedIn, afterHeader, refusal, isNone, accepts, recordIn, recordOf, Reaching}
 use Rattle.log_format.proofs.Walking.{holds-next, led-record, led-below}
 

@@ -5,7 +5,7 @@ use mathlib.Core.List.{List}
 use Prim.Native.Nat.{ℕ, zero, suc, _+_, _<_, _≤_}
 use native.Mathlib.Omega.{arith}
 use native.Mathlib.Numerals.{add-one}
-use lib.ListN.{getD, set, replicate}
+use lib.ListN.{set, replicate}
 use Rattle.std.specs.Options.{isSome}
 use Rattle.std.proofs.shelf.Tests.{both-ways}
 use Rattle.std.specs.declared.option.Option.{Option}
@@ -19,11 +19,11 @@ use Rattle.firsts.proofs.Firsts.{first-here, first-some, first-none, first-none
 use Rattle.log_record.specs.declared.fault.LogFault.the-variants.{StartUntold}
 use Rattle.log_record.specs.declared.header.Header.{Header}
 use Rattle.log_record.specs.declared.record.Record.{Record}
-use Rattle.log_record.specs.Layout.{two, headerOf, recordAt}
+use Rattle.log_record.specs.Layout.{headerOf, recordAt}
 use Rattle.log_record.proofs.Headers.{header-tells}
-use Rattle.log_format.specs.Chain.{held, holder, index, tellsOf, comesTo, visited, stepOf, goesOn, stops, stop}
+use Rattle.log_format.specs.Chain.{holder, index, tellsOf, comesTo, visited, goesOn, stop}
 use Rattle.log_format.specs.Log.{endedIn, isNone, accepts, recordIn, recordOf}
-use Rattle.log_format.specs.Meaning.{Comes, Chain, TellsOf, IsLog, AcceptedExactly, TellsOfChain}
+use Rattle.log_format.specs.Meaning.{Comes, Chain, IsLog, AcceptedExactly, TellsOfChain}
 use Rattle.log_format.proofs.Walking.{Walked, walked-start, walked-more, walked-end, step-end, stops-at, led-is, holds-next}
 use Rattle.log_format.proofs.Following.{accepted-header, accepted-end, end-index, before-stop, some-none, no-record-zero}
 

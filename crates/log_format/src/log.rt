@@ -2,9 +2,9 @@ ghost use mathlib.Core.Path.{_≡_};
 ghost use mathlib.Core.Bool.{true};
 ghost use Rattle.log_format.specs.Log.{accepts};
 
-/// Bytes that the reader accepted, as it answers them. Only the reader makes one.
+/// Bytes that the reader accepted, as it answers them. Only the reader makes one, and `log` makes the log of it.
 #[derive(Clone, Copy)]
-pub struct Lent<'a> {
+pub struct Accepted<'a> {
     bytes: &'a [u8],
 }
 

@@ -1,4 +1,3 @@
-ghost use mathlib.Core.Path.{_≡_};
 ghost use Rattle.log_record.specs.Faults.{told};
 use fault::Fault;
 use fault::layer::Layer;

@@ -3,14 +3,14 @@ ghost use mathlib.Core.Path.{_≡_};
 ghost use Rattle.log_format.specs.Log.{refusal};
 ghost use Rattle.log_tests.specs.Said.{saidOf};
 use fault::Fault;
-use log_format::log::methods::read_log;
+use log_format::log::Log;
 use log_record::fault::LogFaultTells;
 
 /// A refusal's number and place; (0, 0) of an accepted log.
 fn said(log: &[u8]) -> (u8, usize)
     ensures { λ r. ⌜ r ≡ saidOf (refusal (now (log .entry))) ⌝ }
 {
-    match read_log(log) {
+    match Log::read(log) {
         Ok(_) => (0, 0),
         Err(fault) => (fault.number(), fault.place()),
     }
@@ -24,7 +24,6 @@ mod tests {
     use board::megacell::Megacell;
     use log_floor::rover::LogRover;
     use log_floor::rover::drive::LogRoverMeans;
-    use log_format::log::Log;
     use log_format::log::methods::LogRecords;
     use log_format::records::Records;
     use rover::fault::RoverFaultTells;
@@ -106,7 +105,7 @@ mod tests {
     #[test]
     fn along_the_chain() -> Result<(), Fail> {
         let bytes = backwards(1024, 0);
-        let log = read_log(&bytes[0..16392]).ok().ok_or("refused")?.log();
+        let log = Log::read(&bytes[0..16392]).ok().ok_or("refused")?.log();
         check(count_of(&log, 31, 31) == 1024)?;
         check(count_of(&log, 16, 0) == 513)?;
         check(count_of(&log, 0, 0) == 1)
@@ -126,7 +125,7 @@ mod tests {
     #[test]
     fn rover_on_a_log() -> Result<(), Fail> {
         let bytes = two_records(2);
-        let mut rover = LogRover::new(read_log(&bytes).ok().ok_or("refused")?.log());
+        let mut rover = LogRover::new(Log::read(&bytes).ok().ok_or("refused")?.log());
         check(rover.place().slot() == 65 && rover.moves() == 0 && rover.looks() == 0)?;
         check(rover.read() == 16)?;
         check(rover.look(Heading::East) && !rover.look(Heading::South))?;
@@ -142,7 +141,7 @@ mod tests {
     #[test]
     fn one_word() -> Result<(), Fail> {
         let bytes = two_records(13);
-        let mut rover = LogRover::new(read_log(&bytes).ok().ok_or("refused")?.log());
+        let mut rover = LogRover::new(Log::read(&bytes).ok().ok_or("refused")?.log());
         check(!rover.look(Heading::East))?;
         match rover.step(Heading::East) {
             Ok(()) => return Err(Fail::new("an open side")),

@@ -5,7 +5,6 @@ use Rattle.std.specs.Of.String.{string-bytes}
 use Rattle.std.specs.Vec.{made}
 use Rattle.log_record.specs.Faults.{told}
 use Rattle.log_format.specs.Known.{toldOf}
-use Rattle.log_format.specs.Log.{refusal}
 use Rattle.log_faults.specs.Said.{saidOf, refusedLine}
 use Rattle.log_faults.proofs.said.Needs as need
 

@@ -1,4 +1,4 @@
-use mathlib.Core.Path.{_≡_, ap, sym, subst, _∙_}
+use mathlib.Core.Path.{sym, subst, _∙_}
 use mathlib.Core.Bool.{true, false, not}
 use Prim.Native.Nat.{_+_, _<_}
 use Rattle.std.specs.shelf.Lists.{countBy}

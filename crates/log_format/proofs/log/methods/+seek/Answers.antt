@@ -1,5 +1,5 @@
 use borrow.Author.Needs.{needs}
-use mathlib.Core.Path.{_≡_, sym, _∙_}
+use mathlib.Core.Path.{sym, _∙_}
 use Rattle.log_format.proofs.Following.{found-none, found-here, found-later, nearer}
 use Rattle.log_format.proofs.log.methods.+seek.Needs as need
 

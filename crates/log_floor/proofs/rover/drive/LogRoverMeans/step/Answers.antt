@@ -1,5 +1,5 @@
 use borrow.Author.Needs.{needs}
-use mathlib.Core.Path.{_≡_, sym, _∙_}
+use mathlib.Core.Path.{sym, _∙_}
 use Rattle.log_floor.specs.Told.{floorOf}
 use Rattle.log_floor.proofs.Passing.{pass, block}
 use Rattle.log_floor.proofs.rover.drive.LogRoverMeans.step.Needs as need

@@ -1,4 +1,3 @@
-use borrow.Author.Needs.{needs}
 use Rattle.log_format.proofs.Following.{from-start}
 use Rattle.log_format.proofs.log.methods.LogRecords.record.Needs as need
 

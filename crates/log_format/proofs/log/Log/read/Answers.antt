@@ -1,7 +1,7 @@
-use mathlib.Core.Path.{_≡_, ap, sym, _∙_}
+use mathlib.Core.Path.{ap, sym}
 use borrow.Author.Needs.{needs}
 use Rattle.log_format.specs.Log.{afterHeader, refusal}
-use Rattle.log_format.proofs.log.methods.read_log.Needs as need
+use Rattle.log_format.proofs.log.Log.read.Needs as need
 
 pub returns-in-Break-header : need.returns-in-Break-header
 unfolding refusal
