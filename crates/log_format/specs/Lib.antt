@@ -1,0 +1,4 @@
+pub mod Chain
+pub mod Log
+pub mod Known
+pub mod Meaning
