@@ -52,8 +52,12 @@ pub record Ended {R A : Type 0} (G : Ghosts R A) (origin : R) (asked : ℕ) (rov
   pub floor : G .floor rover ≡ G .floor origin
   pub field : G .field rover ≡ G .field origin
 
--- the whole promise: of a sweep, of the chart on which all its calls were made, and of the bytes in which all its letters stand: the letters written are those of the moves
+-- the letters in a buffer from byte 0 on are those of the sweep's moves, which are the tour's, in order
+abbrev pub Wrote : {R A : Type 0} → Ghosts R A → R → Sweep R A → List ℕ → Type 0
+Wrote G origin sweep bytes = take (sweep .moves) bytes ≡ letters (tour (G .floor origin) (G .place origin) (sweep .moves))
+
+-- the whole promise: of a sweep, of the chart on which all its calls were made, and of the buffer in which all its letters stand
 pub record Story {R A : Type 0} (G : Ghosts R A) (origin : R) (asked : ℕ) (sweep : Sweep R A) (slots : List (Slot A)) (bytes : List ℕ) : Type 0 where
   pub journey : Journey G origin asked sweep
   pub chart : Charts G origin sweep slots
-  pub wrote : take (sweep .moves) bytes ≡ letters (tour (G .floor origin) (G .place origin) (sweep .moves))
+  pub wrote : Wrote G origin sweep bytes
