@@ -1,5 +1,4 @@
-use borrow.Author.Needs.{needs}
-use mathlib.Core.Path.{_≡_, sym, subst}
+use mathlib.Core.Path.{sym, subst}
 use Rattle.board.specs.Floors.{Lawful}
 use Rattle.sweep.specs.declared.call.Call.{Call}
 use Rattle.sweep.specs.Calls.{Makes, wants}

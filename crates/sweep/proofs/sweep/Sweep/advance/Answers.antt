@@ -1,8 +1,8 @@
 use borrow.Author.Needs.{needs}
-use Prim.Native.Nat.{ℕ, _+_, _≤_, _<_}
+use Prim.Native.Nat.{_+_, _≤_}
 use lib.ListN.{length}
 use native.Mathlib.Omega.{arith}
-use mathlib.Core.Path.{_≡_, refl}
+use mathlib.Core.Path.{refl}
 use Rattle.std.proofs.shelf.Results.{cases-weaker}
 use Rattle.board.specs.Floors.{Lawful}
 use Rattle.sweep.proofs.Telling.{journey-step, chart-step, journey-idle, next-move, never-blocked, barred-refuses, either-way}
