@@ -2,3 +2,4 @@ mod Choosing
 mod Following
 mod Telling
 mod Running
+mod Gathering

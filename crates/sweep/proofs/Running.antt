@@ -21,15 +21,16 @@ use Rattle.chart.specs.declared.slot.Slot.{Slot}
 use Rattle.sweep.specs.declared.sweep.Sweep.{Sweep}
 use Rattle.sweep.specs.Promise.{NextMove, Letters}
 use Rattle.sweep.specs.Journey.{Journey, Charts}
+use Rattle.fault.specs.declared.layer.Layer.the-variants.{Rover as RoverLayer}
+use Rattle.fault.specs.Refusals.{refused}
 use Rattle.chart.specs.declared.slot.Slot.the-variants.{Empty, Holds}
 use Rattle.chart.specs.Charts.{SameBeyond}
 use Rattle.sweep.specs.declared.fault.SweepFault.{SweepFault}
 use Rattle.sweep.specs.declared.fault.SweepFault.the-variants.{Chart, Home, Rover}
-use Rattle.sweep.specs.Single.{countedBy, Steps, Still, Barred, Refuses, Runs, RunRefuses}
+use Rattle.sweep.specs.Single.{Steps, Still, Barred, Refuses, Runs, RunRefuses}
 use Rattle.rover.specs.declared.fault.RoverFault.the-variants.{Closed}
 use Rattle.rover.specs.Drive.{counted}
-use native.Mathlib.Numerals.{add-one}
-use Rattle.sweep.proofs.Telling.{counted-plain, journey-idle}
+use Rattle.sweep.proofs.Telling.{counted-none, counted-more, counted-plain, journey-idle}
 
 -- what a run does to every journey: it asked for so many moves, and wrote so many letters
 pub record Told {R A : Type 0} (G : Ghosts R A) (sweep after : Sweep R A) (bytes : List ℕ) (asking letters : ℕ) (origin : R) (asked : ℕ) : Type 0 where
@@ -44,14 +45,6 @@ pub record Running {R A : Type 0} (G : Ghosts R A) (sweep : Sweep R A) (slots : 
   pub idle : sweep .home ≡ true → (letters ≡ 0) × Still G sweep slots after slotsAfter
   pub law : (origin : R) (asked : ℕ) → Journey G origin asked sweep → Told G sweep after bytes letters letters origin asked
   pub chart : (origin : R) (asked : ℕ) → Journey G origin asked sweep → Charts G origin sweep slots → Charts G origin after slotsAfter
-
-counted-none : (n : ℕ) → n ≡ countedBy 0 n
-unfolding countedBy
-counted-none n = refl
-
-counted-more : (k n : ℕ) → counted (countedBy k n) ≡ countedBy (k + 1) n
-unfolding countedBy
-counted-more k n = rw (add-one k) refl
 
 pub still-self : {R A : Type 0} (G : Ghosts R A) (sweep : Sweep R A) (slots : List (Slot A)) → Still G sweep slots sweep slots
 still-self G sweep slots = record { place = refl; driven = refl; looked = refl; floor = refl; field = refl; chart = refl; start = refl; marks = refl; moves = refl; looks = refl; megacells = refl; home = refl }
@@ -157,6 +150,7 @@ module _ {R A : Type 0} (G : Ghosts R A) (laws : (r : R) → Lawful (G .floor r)
   barred-still later slotsLater h e s b = record {
     blocked = λ q p. b .blocked q (subst (λ (x : Place). Passes (G .floor (after .rover)) x h q) (s .place) (subst (λ (f : Floor). Passes f (G .place (later .rover)) h q) (s .floor) p));
     is = b .is ∙ ap (λ (x : Place). Rover (Closed (slotOf x) h)) (sym (s .place));
+    tells = b .tells ∙ ap (λ (x : Place). refused 15 RoverLayer (slotOf x)) (sym (s .place));
   }
 
   -- once the slots are enough, a run is refused for no reason but the rover's

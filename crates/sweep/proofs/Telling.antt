@@ -5,6 +5,7 @@ use mathlib.Core.Bool.{Bool, true, false}
 use mathlib.Core.Logic.{inl, inr, _≢_}
 use Prim.Native.Nat.{ℕ, _+_, _-_, _*_, _≤_, _<_, min}
 use native.Mathlib.Omega.{arith}
+use native.Mathlib.Numerals.{add-one}
 use lib.ListN.{length, set, length-set}
 use lib.Seq.{getD-set-same, getD-set-other}
 use Rattle.std.specs.declared.option.Option.{Option}
@@ -39,7 +40,8 @@ use Rattle.sweep.specs.declared.fault.SweepFault.{SweepFault}
 use Rattle.sweep.specs.declared.sweep.Sweep.{Sweep}
 use Rattle.sweep.specs.Table.{choice, decided, found, isFound, marked}
 use Rattle.sweep.specs.Promise.{Promise, NextMove}
-use Rattle.sweep.specs.Journey.{Journey, Charts}
+use Rattle.sweep.specs.Faults.{told}
+use Rattle.sweep.specs.Journey.{countedBy, Journey, Charts}
 use Rattle.sweep.specs.Single.{countedIf, Steps, Barred, Refuses, ByTable, decidedFor, foundFor, Begun}
 use Rattle.sweep.proofs.Following.{Tells, After, decided-is, after-by}
 
@@ -56,6 +58,19 @@ countedIf-plain : (b : Bool) (n : ℕ) → n < 4294967295 → countedIf b n ≡ 
 unfolding bit
 countedIf-plain true n h = counted-plain n h
 countedIf-plain false n h = omega arith
+
+pub counted-none : (n : ℕ) → n ≡ countedBy 0 n
+unfolding countedBy
+counted-none n = refl
+
+pub counted-more : (k n : ℕ) → counted (countedBy k n) ≡ countedBy (k + 1) n
+unfolding countedBy
+counted-more k n = rw (add-one k) refl
+
+countedIf-more : (b : Bool) (k n : ℕ) → countedIf b (countedBy k n) ≡ countedBy (k + bit b) n
+unfolding bit
+countedIf-more true k n = counted-more k n
+countedIf-more false k n = ap (λ (x : ℕ). countedBy x n) (omega arith)
 
 -- The chart.
 slot-inj : (p q : Place) → slotOf p ≡ slotOf q → p ≡ q
@@ -268,8 +283,14 @@ module _ {R A : Type 0} (G : Ghosts R A) (origin : R) (law : Lawful (G .floor or
         let qs = visited f z (sweep .moves) in
         record {
           promise = promise-after;
-          moves = λ low. m .driven ∙ counted-plain _ (omega (arith, st .moves low, n-small)) ∙ omega (arith, st .moves low, n-next);
-          looks = λ low. by .looked ∙ countedIf-plain (decidedFor G sweep .looked) (G .looks (sweep .rover)) (omega (arith, st .looks low, looks-low)) ∙ omega (arith, st .looks low, looks-after);
+          moves = record {
+            exact = m .driven ∙ ap counted (st .moves .exact) ∙ counted-more (sweep .moves) (G .moves origin) ∙ ap (λ (k : ℕ). countedBy k (G .moves origin)) (sym n-next);
+            gained = λ low. m .driven ∙ counted-plain _ (omega (arith, st .moves .gained low, n-small)) ∙ omega (arith, st .moves .gained low, n-next);
+          };
+          looks = record {
+            exact = by .looked ∙ ap (countedIf (decidedFor G sweep .looked)) (st .looks .exact) ∙ countedIf-more (decidedFor G sweep .looked) (sweep .looks) (G .looks origin) ∙ ap (λ (k : ℕ). countedBy k (G .looks origin)) (sym looks-after);
+            gained = λ low. by .looked ∙ countedIf-plain (decidedFor G sweep .looked) (G .looks (sweep .rover)) (omega (arith, st .looks .gained low, looks-low)) ∙ omega (arith, st .looks .gained low, looks-after);
+          };
           floor = m .floor ∙ st .floor;
           field = m .field ∙ st .field;
           workings = record {
@@ -292,7 +313,7 @@ module _ {R A : Type 0} (G : Ghosts R A) (origin : R) (law : Lawful (G .floor or
 
 -- a step that the rover bars is a refusal of the advance
 pub barred-refuses : {R A : Type 0} {G : Ghosts R A} {sweep : Sweep R A} {h : Heading} {e : SweepFault} (slots : ℕ) → 4096 ≤ slots → sweep .home ≡ false → Barred G sweep h e → Refuses G sweep slots e
-barred-refuses {G = G} {sweep = sweep} {h = h} slots room far b = subst (λ (x : SweepFault). Refuses G sweep slots x) (sym (b .is)) (room, far, (h, record { blocked = b .blocked; is = refl }))
+barred-refuses {G = G} {sweep = sweep} {h = h} slots room far b = subst (λ (x : SweepFault). Refuses G sweep slots x) (sym (b .is)) (room, far, (h, record { blocked = b .blocked; is = refl; tells = ap told (sym (b .is)) ∙ b .tells }))
 
 pub at-err : {X Y : Type 0} (P : X → Type 0) (Q : Y → Type 0) (r : Result X Y) (e : Y) → r ≡ Err e → Q e → Cases r P Q
 at-err {X = X} {Y = Y} P Q r e i q = subst (λ (x : Result X Y). Cases x P Q) (sym i) q
@@ -340,8 +361,14 @@ journey-start G rover law sweep b =
           early
           (λ e. b .moves)
           (omega (arith, b .moves));
-      moves = λ low. ap (G .moves) (b .owns) ∙ omega (arith, b .moves);
-      looks = λ low. ap (G .looks) (b .owns) ∙ omega (arith, b .looks);
+      moves = record {
+        exact = ap (G .moves) (b .owns) ∙ counted-none (G .moves rover) ∙ ap (λ (k : ℕ). countedBy k (G .moves rover)) (sym (b .moves));
+        gained = λ low. ap (G .moves) (b .owns) ∙ omega (arith, b .moves);
+      };
+      looks = record {
+        exact = ap (G .looks) (b .owns) ∙ counted-none (G .looks rover) ∙ ap (λ (k : ℕ). countedBy k (G .looks rover)) (sym (b .looks));
+        gained = λ low. ap (G .looks) (b .owns) ∙ omega (arith, b .looks);
+      };
       floor = ap (G .floor) (b .owns);
       field = ap (G .field) (b .owns);
       workings = record {

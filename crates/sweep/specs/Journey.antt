@@ -2,9 +2,10 @@
 use mathlib.Core.Path.{_≡_}
 use mathlib.Core.List.{List}
 use mathlib.Core.Bool.{Bool, false}
-use Prim.Native.Nat.{ℕ, _+_, _≤_}
+use Prim.Native.Nat.{ℕ, zero, suc, _+_, _≤_}
 use lib.ListN.{length, take}
 use Rattle.rover.specs.declared.meaning.Rover.{Ghosts}
+use Rattle.rover.specs.Drive.{counted}
 use Rattle.board.specs.declared.megacell.Megacell.{Megacell}
 use Rattle.board.specs.declared.place.Place.{Place}
 use Rattle.board.specs.Floors.{Floor}
@@ -16,9 +17,15 @@ use Rattle.sweep.specs.declared.sweep.Record.{Record}
 use Rattle.sweep.specs.Table.{markAt, Says}
 use Rattle.sweep.specs.Promise.{Promise, OnChart}
 
--- honest counts: each counter of the rover gained what the sweep tells, if it began at 4,000,000,000 or less
-abbrev pub Gained : (began ends told : ℕ) → Type 0
-Gained began ends told = began ≤ 4000000000 → ends ≡ began + told
+-- counted n times
+unfoldable pub countedBy : ℕ → ℕ → ℕ
+countedBy zero count = count
+countedBy (suc n) count = counted (countedBy n count)
+
+-- honest counts: a counter of the rover was counted up as often as the sweep tells; if it began at 4,000,000,000 or less, it gained just that
+pub record Counts (began ends told : ℕ) : Type 0 where
+  pub exact : ends ≡ countedBy told began
+  pub gained : began ≤ 4000000000 → ends ≡ began + told
 
 -- what is kept besides, for the proof: the sweep's private fields, and how the calls so far went
 pub record Workings (floor : Floor) (s : Place) (asked n : ℕ) (isHome : Bool) (start : Place) (marks : List Mark) : Type 0 where
@@ -33,8 +40,8 @@ pub record Workings (floor : Floor) (s : Place) (asked n : ℕ) (isHome : Bool) 
 -- The sweep was started with the rover as it was in `origin`, and the calls so far asked for so many moves.
 pub record Journey {R A : Type 0} (G : Ghosts R A) (origin : R) (asked : ℕ) (sweep : Sweep R A) : Type 0 where
   pub promise : Promise (G .floor origin) (G .place origin) asked (G .place (sweep .rover)) (sweep .moves) (sweep .looks) (sweep .megacells) (sweep .home)
-  pub moves : Gained (G .moves origin) (G .moves (sweep .rover)) (sweep .moves)
-  pub looks : Gained (G .looks origin) (G .looks (sweep .rover)) (sweep .looks)
+  pub moves : Counts (G .moves origin) (G .moves (sweep .rover)) (sweep .moves)
+  pub looks : Counts (G .looks origin) (G .looks (sweep .rover)) (sweep .looks)
   -- the rover has its floor and its field still
   pub floor : G .floor (sweep .rover) ≡ G .floor origin
   pub field : G .field (sweep .rover) ≡ G .field origin
@@ -47,13 +54,17 @@ Charts G origin sweep slots = OnChart (G .floor origin) (G .field origin) (G .pl
 -- the promise when the sweep has ended, over the rover given back and the record
 pub record Ended {R A : Type 0} (G : Ghosts R A) (origin : R) (asked : ℕ) (rover : R) (told : Record) : Type 0 where
   pub promise : Promise (G .floor origin) (G .place origin) asked (G .place rover) (told .moves) (told .looks) (told .megacells) (told .home)
-  pub moves : Gained (G .moves origin) (G .moves rover) (told .moves)
-  pub looks : Gained (G .looks origin) (G .looks rover) (told .looks)
+  pub moves : Counts (G .moves origin) (G .moves rover) (told .moves)
+  pub looks : Counts (G .looks origin) (G .looks rover) (told .looks)
   pub floor : G .floor rover ≡ G .floor origin
   pub field : G .field rover ≡ G .field origin
 
--- the whole promise: of a sweep, of the chart on which all its calls were made, and of the bytes in which all its letters stand: the letters written are those of the moves
+-- the letters in a buffer from byte 0 on are those of the sweep's moves, which are the tour's, in order
+abbrev pub Wrote : {R A : Type 0} → Ghosts R A → R → Sweep R A → List ℕ → Type 0
+Wrote G origin sweep bytes = take (sweep .moves) bytes ≡ letters (tour (G .floor origin) (G .place origin) (sweep .moves))
+
+-- the whole promise: of a sweep, of the chart on which all its calls were made, and of the buffer in which all its letters stand
 pub record Story {R A : Type 0} (G : Ghosts R A) (origin : R) (asked : ℕ) (sweep : Sweep R A) (slots : List (Slot A)) (bytes : List ℕ) : Type 0 where
   pub journey : Journey G origin asked sweep
   pub chart : Charts G origin sweep slots
-  pub wrote : take (sweep .moves) bytes ≡ letters (tour (G .floor origin) (G .place origin) (sweep .moves))
+  pub wrote : Wrote G origin sweep bytes

@@ -2,10 +2,11 @@
 use mathlib.Core.Path.{_≡_}
 use mathlib.Core.List.{List, []}
 use mathlib.Core.Bool.{Bool, true, false}
-use mathlib.Core.Logic.{_⊎_}
-use Prim.Native.Nat.{ℕ, zero, suc, _≤_, _<_}
+use Prim.Native.Nat.{ℕ, _≤_, _<_}
 use lib.ListN.{length, set}
 use Rattle.std.specs.declared.option.Option.{Option}
+use Rattle.fault.specs.declared.layer.Layer.the-variants.{Sweep as SweepLayer, Rover as RoverLayer}
+use Rattle.fault.specs.Refusals.{refused}
 use Rattle.rover.specs.declared.meaning.Rover.{Ghosts}
 use Rattle.rover.specs.declared.fault.RoverFault.the-variants.{Closed}
 use Rattle.rover.specs.Drive.{counted, Blocked}
@@ -25,6 +26,8 @@ use Rattle.sweep.specs.declared.fault.SweepFault.{SweepFault}
 use Rattle.sweep.specs.declared.fault.SweepFault.the-variants.{Chart, Home, Rover}
 use Rattle.sweep.specs.declared.sweep.Sweep.{Sweep}
 use Rattle.sweep.specs.Promise.{SameFrom}
+use Rattle.sweep.specs.Journey.{countedBy}
+use Rattle.sweep.specs.Faults.{told}
 use Rattle.sweep.specs.Table.{choice, decided, found, isFound, marked, markAt, Says}
 
 -- a new sweep of a rover
@@ -69,17 +72,13 @@ pub record Still {R A : Type 0} (G : Ghosts R A) (sweep : Sweep R A) (slots : Li
 pub record Barred {R A : Type 0} (G : Ghosts R A) (sweep : Sweep R A) (h : Heading) (e : SweepFault) : Type 0 where
   pub blocked : Blocked (G .floor (sweep .rover)) (G .place (sweep .rover)) h
   pub is : e ≡ Rover (Closed (slotOf (G .place (sweep .rover))) h)
+  pub tells : told e ≡ refused 15 RoverLayer (slotOf (G .place (sweep .rover)))
 
--- why an advance is refused: the slots, so many, are too few; else the sweep is home; else the rover refuses its step
+-- why an advance is refused: 13, the slots, so many, are too few; else 14, the sweep is home; else 15, the rover refuses its step
 abbrev pub Refuses : {R A : Type 0} → Ghosts R A → Sweep R A → ℕ → SweepFault → Type 0
 Refuses G sweep slots (Chart e) = TooFew slots e
-Refuses G sweep slots Home = (4096 ≤ slots) × (sweep .home ≡ true)
+Refuses G sweep slots Home = (4096 ≤ slots) × (sweep .home ≡ true) × (told Home ≡ refused 14 SweepLayer 0)
 Refuses G sweep slots (Rover e) = (4096 ≤ slots) × (sweep .home ≡ false) × ((h : Heading) × Barred G sweep h (Rover e))
-
--- counted n times
-unfoldable pub countedBy : ℕ → ℕ → ℕ
-countedBy zero count = count
-countedBy (suc n) count = counted (countedBy n count)
 
 -- a run of n moves: each counted once, and no byte of the buffer written but the first n
 pub record Runs {R A : Type 0} (G : Ghosts R A) (sweep : Sweep R A) (slots : List (Slot A)) (tour : List ℕ) (after : Sweep R A) (slotsAfter : List (Slot A)) (tourAfter : List ℕ) (n : ℕ) : Type 0 where
@@ -93,7 +92,7 @@ pub record Runs {R A : Type 0} (G : Ghosts R A) (sweep : Sweep R A) (slots : Lis
   pub moves : after .moves ≡ countedBy n (sweep .moves)
   pub driven : G .moves (after .rover) ≡ countedBy n (G .moves (sweep .rover))
 
--- why a run is refused: the slots are too few, and nothing changed; or the rover refuses a step after some moves, which it never does in a sweep that was started
+-- why a run is refused: 13, the slots are too few, and nothing changed; or the rover refuses a step after some moves, which it never does in a sweep that was started
 abbrev pub RunRefuses : {R A : Type 0} → Ghosts R A → Sweep R A → List (Slot A) → List ℕ → Sweep R A → List (Slot A) → List ℕ → SweepFault → Type 0
 RunRefuses G sweep slots tour after slotsAfter tourAfter (Chart e) = TooFew (length slots) e × Still G sweep slots after slotsAfter × (tourAfter ≡ tour)
 RunRefuses G sweep slots tour after slotsAfter tourAfter Home = ⊥

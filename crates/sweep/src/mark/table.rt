@@ -22,14 +22,14 @@ fn unmarked() -> [Mark; 1024]
 }
 
 /// Marks a megacell.
-pub fn set_mark(marks: &mut [Mark; 1024], megacell: Megacell, mark: Mark)
+pub(crate) fn set_mark(marks: &mut [Mark; 1024], megacell: Megacell, mark: Mark)
     ensures { λ _. ⌜ now (marks .exit) ≡ set (now (marks .entry)) (numberOf megacell) mark ⌝ }
 {
     marks[megacell.number()] = mark;
 }
 
 /// The marks of a new sweep: the start's megacell is old and has no parent, and every other is new.
-pub fn fresh(start: Place) -> [Mark; 1024]
+pub(crate) fn fresh(start: Place) -> [Mark; 1024]
     ensures size { λ r. ⌜ length r ≡ 1024 ⌝ }
     ensures tells { λ r. ⌜ ((m : Megacell) → Says start [] m (markAt r m)) ⌝ }
 {
@@ -69,7 +69,7 @@ fn look_if_new(mark: Mark, other: Megacell) -> Choice
 
 /// What to do at a place, before any look: cross to the parent; turn where the neighbour at the exit is absent
 /// or old; look where it is new.
-pub fn choose(marks: &[Mark; 1024], place: Place) -> Choice
+pub(crate) fn choose(marks: &[Mark; 1024], place: Place) -> Choice
     ensures { λ r. ⌜ r ≡ choice (now (marks .entry)) place ⌝ }
 {
     let own = place.megacell();

@@ -97,6 +97,16 @@ impl<R: Rover> Sweep<R> {
         }
     }
 
+    /// Refuses a sweep that is home already.
+    fn need_underway(&self) -> Result<(), SweepFault>
+        ensures { λ r. ⌜ Cases r (λ _. now (self .entry) .home ≡ false) (λ e. (now (self .entry) .home ≡ true) × (e ≡ Home)) ⌝ }
+    {
+        if self.home {
+            return Err(SweepFault::Home);
+        }
+        Ok(())
+    }
+
     /// One move by the three rules: a step, and the reading there put into the slot of the place entered.
     ///
     /// Refused where the slots are too few, and then where the sweep is home already; a refusal alters nothing.
@@ -114,9 +124,7 @@ impl<R: Rover> Sweep<R> {
         ensures short { λ _. ⌜ ((origin : R) (asked : ℕ) → length (now (slots .entry)) < 4096 → Journey R·Rover origin asked (now (self .entry)) → Journey R·Rover origin asked (now (self .exit))) ⌝ }
     {
         need_chart(slots)?;
-        if self.home {
-            return Err(SweepFault::Home);
-        }
+        self.need_underway()?;
         self.make_move(slots)
     }
 }

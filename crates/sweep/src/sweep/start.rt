@@ -35,21 +35,21 @@ impl<R: Rover> Sweep<R> {
         ensures is { λ r. ⌜ (r .0 ≡ self .rover) × (r .1 .moves ≡ self .moves) × (r .1 .looks ≡ self .looks) × (r .1 .megacells ≡ self .megacells) × (r .1 .home ≡ self .home) ⌝ }
         ensures law { λ r. ⌜ ((origin : R) (asked : ℕ) → Journey R·Rover origin asked self → Ended R·Rover origin asked (r .0) (r .1)) ⌝ }
     {
+        let record = Record {
+            moves: self.moves,
+            looks: self.looks,
+            megacells: self.megacells,
+            home: self.home,
+        };
         let Sweep {
             rover,
             start: _,
             marks: _,
-            moves,
-            looks,
-            megacells,
-            home,
+            moves: _,
+            looks: _,
+            megacells: _,
+            home: _,
         } = self;
-        let record = Record {
-            moves,
-            looks,
-            megacells,
-            home,
-        };
         (rover, record)
     }
 }

@@ -1,10 +1,10 @@
-use mathlib.Core.Path.{_≡_, sym, _∙_}
+use mathlib.Core.Path.{_≡_, sym}
 use mathlib.Core.Bool.{true, false}
 use Rattle.std.specs.declared.option.Option.the-variants.{Some, None}
 use Rattle.board.specs.Places.{megacellOf}
 use Rattle.board.specs.Corners.{exit}
 use Rattle.board.specs.Steps.{beside}
-use Rattle.sweep.specs.Table.{choice, markAt, leads, lookIfNew}
+use Rattle.sweep.specs.Table.{markAt, leads}
 use Rattle.sweep.proofs.Choosing.{choice-turn, choice-cross, choice-of-neighbour}
 use Rattle.sweep.proofs.mark.table.choose.Needs as need
 

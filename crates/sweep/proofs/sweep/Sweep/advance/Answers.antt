@@ -1,31 +1,41 @@
 use borrow.Author.Needs.{needs}
-use Prim.Native.Nat.{ℕ, _+_, _≤_, _<_}
-use lib.ListN.{length}
-use native.Mathlib.Omega.{arith}
 use mathlib.Core.Path.{_≡_, refl}
+use mathlib.Core.Bool.{false}
+use Prim.Native.Nat.{_+_, _≤_}
+use native.Mathlib.Omega.{arith}
+use lib.ListN.{length}
+use Rattle.std.specs.declared.result.Result.the-variants.{Err}
 use Rattle.std.proofs.shelf.Results.{cases-weaker}
 use Rattle.board.specs.Floors.{Lawful}
-use Rattle.sweep.proofs.Telling.{journey-step, chart-step, journey-idle, next-move, never-blocked, barred-refuses, either-way}
+use Rattle.sweep.specs.declared.fault.SweepFault.the-variants.{Home}
+use Rattle.sweep.proofs.Telling.{journey-step, chart-step, journey-idle, next-move, never-blocked, barred-refuses, at-err, either-way}
+use Rattle.sweep.proofs.Running.{still-self}
 use Rattle.sweep.proofs.sweep.Sweep.advance.Needs as need
 
 -- home already: nothing changes
-pub returns-then-self : need.returns-then-self
-returns-then-self g c = record {
-  done = search needs;
-  law = λ origin asked room st. (
-    journey-idle (g .R·Rover) origin (record { both = g .R·Rover·met .sides origin; edge = g .R·Rover·met .edge origin }) asked (c .args .self .now) st (asked + 1) (c .if-self .taken) (omega (arith, st .workings .most)),
-    (c .if-self .taken, refl),
-  );
-  chart = λ origin asked st ch. ch;
-  short = λ origin asked few st. st;
-}
+pub returns-in-Break-need-underway : need.returns-in-Break-need-underway
+returns-in-Break-need-underway g c =
+    let sweep = c .args .self .now in
+    let homed = c .in-Break-need-underway .ensures tt .0 in
+    let room : 4096 ≤ length (c .args .slots .now) = search needs in
+    let r = c .from-residual-in-Break-need-underway .result in
+    let is : r ≡ Err Home = search needs in
+    record {
+      done = at-err _ _ r Home is ((room, homed, refl), still-self (g .R·Rover) sweep (c .args .slots .now));
+      law = λ origin asked _ st. (
+        journey-idle (g .R·Rover) origin (record { both = g .R·Rover·met .sides origin; edge = g .R·Rover·met .edge origin }) asked sweep st (asked + 1) homed (omega (arith, st .workings .most)),
+        at-err _ _ r Home is (homed, refl),
+      );
+      chart = λ origin asked st ch. ch;
+      short = λ origin asked lack st. st;
+    }
 
 -- a move; a step refused by the rover does not come in a sweep that was started
 pub returns : need.returns
 returns g c =
     let laws : (r : g .R .Denot) → Lawful (g .R·Rover .floor r) = λ r. record { both = g .R·Rover·met .sides r; edge = g .R·Rover·met .edge r } in
     let sweep = c .args .self .now in
-    let far = c .if-self .left in
+    let far : sweep .home ≡ false = search needs in
     let room : 4096 ≤ length (c .args .slots .now) = search needs in
     let r = c .make-move .result in
     let w = c .make-move .ensures in

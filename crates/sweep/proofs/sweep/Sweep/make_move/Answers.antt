@@ -1,5 +1,5 @@
 use borrow.Author.Needs.{needs}
-use mathlib.Core.Path.{_≡_, sym, _∙_, ap}
+use mathlib.Core.Path.{sym, _∙_}
 use Rattle.std.proofs.shelf.Results.{cases-weaker}
 use Rattle.sweep.proofs.Choosing.{choice-looks, turn-never, cross-never}
 use Rattle.sweep.proofs.sweep.Sweep.make_move.Needs as need

@@ -1,6 +1,4 @@
-use borrow.Author.Needs.{needs}
-use Prim.Native.Nat.{ℕ}
-use mathlib.Core.Path.{_≡_, refl, sym, subst}
+use mathlib.Core.Path.{refl, subst}
 use mathlib.Core.Bool.{false}
 use mathlib.Core.List.{[]}
 use Rattle.board.specs.declared.megacell.Megacell.{Megacell}
