@@ -247,7 +247,7 @@ take-more n [] h = absurd (omega arith)
 take-more zero (b ∷ bytes) h = refl
 take-more (suc n) (b ∷ bytes) h = ap (λ (x : List ℕ). b ∷ x) (take-more n bytes (omega arith))
 
-letters-listed : (floor : Floor) (s : Place) (n : ℕ) (bytes : List ℕ) → n ≤ length bytes → ((i : ℕ) → i < n → getD bytes i 0 ≡ letter (moveAfter floor s i .heading)) → take n bytes ≡ letters (tour floor s n)
+pub letters-listed : (floor : Floor) (s : Place) (n : ℕ) (bytes : List ℕ) → n ≤ length bytes → ((i : ℕ) → i < n → getD bytes i 0 ≡ letter (moveAfter floor s i .heading)) → take n bytes ≡ letters (tour floor s n)
 unfolding tour letters
 letters-listed floor s zero bytes fits w = refl
 letters-listed floor s (suc n) bytes fits w =
