@@ -2,4 +2,4 @@ mod Choosing
 mod Following
 mod Telling
 mod Running
-mod Gathering
+pub mod Gathering

@@ -1,0 +1,3 @@
+pub mod Olds
+pub mod Coursing
+pub mod Driving
