@@ -1,3 +1,4 @@
 pub mod Olds
 pub mod Coursing
 pub mod Driving
+pub mod Surveying

@@ -26,6 +26,7 @@ returns g c =
     let end = c .end-rover .ensures .is in
     record {
       letters = all;
+      fits = runs .fits;
       ending = record-is (g .R·Rover) rover after (c .args .chart .now) (c .run .last .slots) (c .args .tour .now) (c .run .last .tour) n (c .end-rover .result .1) (0 + length (c .args .tour .now)) (told .0) e (end .1) (end .2) (end .3) (end .4)
         ∙ ap (recordAfter (g .R·Rover .floor rover) (g .R·Rover .place rover)) all;
       driven = subst (λ (k : ℕ). Driven (g .R·Rover .floor rover) (g .R·Rover .field rover) (g .R·Rover .place rover) k (c .args .chart .now) (c .args .tour .now) (c .run .last .slots) (c .run .last .tour)) all
