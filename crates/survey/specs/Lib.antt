@@ -1,3 +1,4 @@
 pub mod Course
 pub mod Faults
 pub mod Surveys
+pub mod Maps
