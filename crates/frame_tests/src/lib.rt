@@ -47,7 +47,16 @@ mod tests {
         check_eq(taken(&Turn { quarters: 1 }, 1, 1), 64 + 62)?;
         check_eq(taken(&Turn { quarters: 2 }, 1, 1), 64 * 62 + 62)?;
         check_eq(taken(&Turn { quarters: 3 }, 1, 1), 64 * 62 + 1)?;
-        check_eq(taken(&Turn { quarters: 4_000_000_001 }, 1, 1), 64 + 62)?;
+        check_eq(
+            taken(
+                &Turn {
+                    quarters: 4_000_000_001,
+                },
+                1,
+                1,
+            ),
+            64 + 62,
+        )?;
         check(Turn { quarters: 3 }.heading(Heading::North) == Heading::West)?;
         check_eq(taken(&Mirror, 5, 40), 64 * 5 + 23)
     }

@@ -90,7 +90,12 @@ fn put_sheet(sheet: &mut [u8], start: Place, tour: &[u8], ending: Record) -> usi
 /// Lays out the sheet of a tour: the start, the letters, and how the sweep ended. It answers the sheet's length.
 ///
 /// The letters are not compared with the record. A refusal writes nothing.
-pub fn lay_out(sheet: &mut [u8], start: Place, tour: &[u8], ending: Record) -> Result<usize, SheetFault>
+pub fn lay_out(
+    sheet: &mut [u8],
+    start: Place,
+    tour: &[u8],
+    ending: Record,
+) -> Result<usize, SheetFault>
     ensures { λ r. ⌜ LaidOut
         (sheetFault (length (now (sheet .entry))) (now (tour .entry)) (sheetOf start (now (tour .entry)) ending))
         (sheetOf start (now (tour .entry)) ending)

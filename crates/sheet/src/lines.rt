@@ -31,7 +31,11 @@ pub(crate) fn start_line(out: &mut [u8], start: Place) -> usize
     requires { ⌜ Room (now out) 0 (startLine start) ⌝ }
     ensures { λ r. ⌜ Put (now (out .entry)) 0 (startLine start) (now (out .exit)) r ⌝ }
 {
-    worded_line(out, b"START", &[start.row() as usize, start.column() as usize])
+    worded_line(
+        out,
+        b"START",
+        &[start.row() as usize, start.column() as usize],
+    )
 }
 
 /// The last line of a sheet, at the front of the part lent: its length.

@@ -29,9 +29,9 @@ never-in floor s bytes u = ap (λ o. orElse o bytes) (first-none (homeAfter floo
 -- a run that ended home, or for want of bytes, made just those moves
 pub moves-are : (floor : Floor) (s : Place) (bytes n : ℕ) (isHome : Bool) → Underway floor s n → isHome ≡ homeAfter floor s n → (isHome ≡ false → n ≡ bytes) → n ≤ bytes → n ≡ movesIn floor s bytes
 moves-are floor s bytes n true u e d l =
-    elim (cases-lt n bytes)
-    [ inl h ↦ sym (home-in floor s bytes n u (sym e) h)
-    | inr h ↦ let q : n ≡ bytes = omega arith in q ∙ sym (never-in floor s bytes (subst (λ k. Underway floor s k) q u))
+    elim (cases-lt n bytes) [
+      | inl h ↦ sym (home-in floor s bytes n u (sym e) h)
+      | inr h ↦ let q : n ≡ bytes = omega arith in q ∙ sym (never-in floor s bytes (subst (λ k. Underway floor s k) q u))
     ]
 moves-are floor s bytes n false u e d l = let q = d refl in q ∙ sym (never-in floor s bytes (subst (λ k. Underway floor s k) q u))
 
@@ -44,6 +44,7 @@ front-and-rest n text before after l e r =
   where
     even : length (drop n after) ≡ length (drop n before)
     even = length-drop n after ∙ ap (λ k. k - n) l ∙ sym (length-drop n before)
+
     same : (k d : ℕ) → k < length (drop n after) → getD (drop n after) k d ≡ getD (drop n before) k d
     same k d h =
         getD-default (drop n after) k d 0 h

@@ -61,10 +61,10 @@ module _ {R A : Type 0} (G : Ghosts R A) (origin : R) (after : Sweep R A) (slots
         chart = c;
         beyond = beyond;
         tour = front-and-rest made (letters (tour (G .floor origin) (G .place origin) made)) bytes bytesAfter long
-          (letters-listed (G .floor origin) (G .place origin) made bytesAfter (omega arith) (λ i h. wrote i h ∙ ap (λ (k : ℕ). letter (moveAfter (G .floor origin) (G .place origin) k .heading)) (zero-add i))) rest;
+            (letters-listed (G .floor origin) (G .place origin) made bytesAfter (omega arith) (λ i h. wrote i h ∙ ap (λ (k : ℕ). letter (moveAfter (G .floor origin) (G .place origin) k .heading)) (zero-add i))) rest;
         ground = λ h q g. c .charted q (p .whole (homed ∙ h) q g);
-        elsewhere = λ q n. elim (cases-lt 0 (times q (visited (G .floor origin) (G .place origin) made)))
-          [ inl h ↦ absurd (n (p .inside q (omega arith)))
+        elsewhere = λ q n. elim (cases-lt 0 (times q (visited (G .floor origin) (G .place origin) made))) [
+          | inl h ↦ absurd (n (p .inside q (omega arith)))
           | inr h ↦ c .blank q (omega arith)
-          ];
+        ];
       }

@@ -17,7 +17,11 @@ pub(crate) struct Run {
 }
 
 /// One run of a rover over an empty chart.
-pub(crate) fn drive<R: Rover + Drop>(rover: R, chart: &mut [Slot<R::Reading>], tour: &mut [u8]) -> Run
+pub(crate) fn drive<R: Rover + Drop>(
+    rover: R,
+    chart: &mut [Slot<R::Reading>],
+    tour: &mut [u8],
+) -> Run
     requires { ⌜ Blank (now chart) ⌝ }
     ensures letters { λ r. ⌜ r .letters ≡ movesIn (R·Rover .floor rover) (R·Rover .place rover) (length (now (tour .entry))) ⌝ }
     ensures fits { λ r. ⌜ r .letters ≤ length (now (tour .entry)) ⌝ }

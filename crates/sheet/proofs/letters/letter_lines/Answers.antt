@@ -10,7 +10,7 @@ letters-line-at-requires c κs =
 pub add-at : need.add-at
 add-at c =
     let laid =
-      laid-more (c .args .out .now) (c .args .letters .now) (c .loop-from .out) (c .letters-line-at .last .out) (c .loop-from .at) (c .loop-from .from) (c .line-end-to .result) (c .letters-line-at .result) (c .pre) (c .loop-from .inv) (c .loop-from-test .taken) (c .line-end-to .ensures .ends) (c .line-end-to .ensures .within .1) (c .letters-line-at .ensures) in
+    laid-more (c .args .out .now) (c .args .letters .now) (c .loop-from .out) (c .letters-line-at .last .out) (c .loop-from .at) (c .loop-from .from) (c .line-end-to .result) (c .letters-line-at .result) (c .pre) (c .loop-from .inv) (c .loop-from-test .taken) (c .line-end-to .ensures .ends) (c .line-end-to .ensures .within .1) (c .letters-line-at .ensures) in
     omega (arith, laid .some, c .pre)
 
 pub loop-from-again : need.loop-from-again

@@ -28,7 +28,7 @@ returns g c =
       letters = all;
       fits = runs .fits;
       ending = record-is (g .R·Rover) rover after (c .args .chart .now) (c .run .last .slots) (c .args .tour .now) (c .run .last .tour) n (c .end-rover .result .1) (0 + length (c .args .tour .now)) (told .0) e (end .1) (end .2) (end .3) (end .4)
-        ∙ ap (recordAfter (g .R·Rover .floor rover) (g .R·Rover .place rover)) all;
+          ∙ ap (recordAfter (g .R·Rover .floor rover) (g .R·Rover .place rover)) all;
       driven = subst (λ (k : ℕ). Driven (g .R·Rover .floor rover) (g .R·Rover .field rover) (g .R·Rover .place rover) k (c .args .chart .now) (c .args .tour .now) (c .run .last .slots) (c .run .last .tour)) all
-        (driven-by (g .R·Rover) rover after (c .args .chart .now) (c .run .last .slots) (c .args .tour .now) (c .run .last .tour) n (0 + length (c .args .tour .now)) (told .0) chart e (runs .fits) (c .run .kept .tour) wrote (runs .rest) (runs .beyond));
+          (driven-by (g .R·Rover) rover after (c .args .chart .now) (c .run .last .slots) (c .args .tour .now) (c .run .last .tour) n (0 + length (c .args .tour .now)) (told .0) chart e (runs .fits) (c .run .kept .tour) wrote (runs .rest) (runs .beyond));
     }

@@ -21,11 +21,11 @@ returns c =
     let after = lent (c .survey-rover .last .chart) (c .survey-rover .last .tour) (c .survey-rover .last .sheet) in
     let r = c .survey-rover .result in
     let Seen : DrawnRover → Pair (Option Mirror) Turn → Type 0 =
-      λ b f. Surveys (seenFloor (placeBelow f) (headingBelow f) (floorOf (b .drawing))) (seenField (placeBelow f) (fieldOf (b .drawing))) (placeSeen f (b .place)) before after r in
+    λ b f. Surveys (seenFloor (placeBelow f) (headingBelow f) (floorOf (b .drawing))) (seenField (placeBelow f) (fieldOf (b .drawing))) (placeSeen f (b .place)) before after r in
     let framed = c .in-Continue-seen .ensures tt in
     record {
       unframed = λ h. absurd (omega (arith, framed .0));
       framed = λ h.
-        subst (λ (a : Result Drawing MapFault). MapAnswered (c .args .frame) a before after r) (c .in-Continue-drawing .ensures tt .is)
-        (subst (λ b. Seen b (frameOf (c .args .frame))) (c .new .ensures) (subst (λ f. Seen (c .new .result) f) (framed .1) (c .survey-rover .ensures)));
+          subst (λ (a : Result Drawing MapFault). MapAnswered (c .args .frame) a before after r) (c .in-Continue-drawing .ensures tt .is)
+          (subst (λ b. Seen b (frameOf (c .args .frame))) (c .new .ensures) (subst (λ f. Seen (c .new .result) f) (framed .1) (c .survey-rover .ensures)));
     }
