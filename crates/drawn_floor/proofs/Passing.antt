@@ -1,4 +1,4 @@
--- When a step passes, and the two laws of the floor.
+-- The two laws of the floor.
 use mathlib.Core.Path.{_≡_, refl, sym, _∙_, ap}
 use mathlib.Core.Bool.{Bool, true, false, _&&_, _||_}
 use mathlib.Core.Logic.{_⊎_, inl, inr}
@@ -16,37 +16,16 @@ use Rattle.board.specs.Places.{megacellOf, sameMegacell, placed}
 use Rattle.board.specs.Corners.{subcell}
 use Rattle.board.specs.Steps.{ahead, beside}
 use Rattle.board.specs.Floors.{Floor, Passes, SameFromBoth, ClosedAtEdge}
-use Rattle.board.proofs.Geometry.{placed-at, sameMegacell-true, sameMegacell-refl, beside-back}
+use Rattle.board.proofs.Geometry.{placed-at, beside-back}
+use Rattle.rover.proofs.Passing.{and-swap, and-false}
 use Rattle.map_format.specs.declared.drawing.Drawing.{Drawing}
 use Rattle.drawn_floor.specs.Floor.{freeAt, thereFree, floorOf}
-
-pub pass : (floor : Floor) (p q : Place) (h : Heading) → ahead p h ≡ Some q → (sameMegacell (megacellOf q) (megacellOf p) || floor (megacellOf p) h) ≡ true → Passes floor p h q
-pass floor p q h e t = record { next = e; way = elim (or-cases _ _ t) [ inl i ↦ inl (sameMegacell-true _ _ i) | inr i ↦ inr i ] }
-
-pub block : (floor : Floor) (p q : Place) (h : Heading) → ahead p h ≡ Some q → (sameMegacell (megacellOf q) (megacellOf p) || floor (megacellOf p) h) ≡ false → (z : Place) → Passes floor p h z → ⊥
-block floor p q h e f z w =
-    let a = w .next in
-    let is : z ≡ q = cc in
-    elim (w .way) [
-      | inl i ↦ both-ways _ f (or-left _ _ (ap (λ (m : Megacell). sameMegacell m (megacellOf p)) (ap megacellOf (sym is) ∙ i) ∙ sameMegacell-refl (megacellOf p)))
-      | inr i ↦ both-ways _ f (or-right _ _ i)
-    ]
-
-and-swap : (a b : Bool) → (a && b) ≡ (b && a)
-and-swap true true = refl
-and-swap true false = refl
-and-swap false true = refl
-and-swap false false = refl
 
 pub both-sides : (d : Drawing) → SameFromBoth (floorOf d)
 unfolding floorOf
 both-sides d m n h e =
     let b = beside-back h m n e in
     ap (λ o. freeAt d m && thereFree d o) e ∙ and-swap (freeAt d m) (freeAt d n) ∙ sym (ap (λ o. freeAt d n && thereFree d o) b)
-
-and-false : (a : Bool) → (a && false) ≡ false
-and-false true = refl
-and-false false = refl
 
 pub edges : (d : Drawing) → ClosedAtEdge (floorOf d)
 unfolding floorOf

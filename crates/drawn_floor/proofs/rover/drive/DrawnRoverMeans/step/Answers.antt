@@ -1,7 +1,7 @@
 use borrow.Author.Needs.{needs}
 use mathlib.Core.Path.{_≡_, sym, _∙_}
 use Rattle.drawn_floor.specs.Floor.{floorOf}
-use Rattle.drawn_floor.proofs.Passing.{pass, block}
+use Rattle.rover.proofs.Passing.{pass, block}
 use Rattle.drawn_floor.proofs.rover.drive.DrawnRoverMeans.step.Needs as need
 
 pub returns-then-is-passable : need.returns-then-is-passable

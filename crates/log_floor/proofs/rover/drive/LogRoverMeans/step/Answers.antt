@@ -1,7 +1,7 @@
 use borrow.Author.Needs.{needs}
 use mathlib.Core.Path.{sym, _∙_}
 use Rattle.log_floor.specs.Told.{floorOf}
-use Rattle.log_floor.proofs.Passing.{pass, block}
+use Rattle.rover.proofs.Passing.{pass, block}
 use Rattle.log_floor.proofs.rover.drive.LogRoverMeans.step.Needs as need
 
 pub returns-then-is-passable : need.returns-then-is-passable
