@@ -1,6 +1,6 @@
 -- What the written rules make of a map or a log: one survey of it, as a function of its bytes.
 use mathlib.Core.Bool.{cond}
-use mathlib.Core.List.{List}
+use mathlib.Core.List.{List, []}
 use Prim.Native.Nat.{ℕ}
 use lib.Dec.{ltb}
 use Rattle.std.specs.declared.option.Option.{Option}
@@ -30,6 +30,11 @@ use Rattle.survey.specs.Logs.{floorSeen}
 pub data Outcome : Type 0 where
   Sheet : List ℕ → Outcome
   Refused : (number place : ℕ) → Outcome
+
+-- the bytes of the sheet; a refusal leaves none
+abbrev pub bytesOf : Outcome → List ℕ
+bytesOf (Sheet text) = text
+bytesOf (Refused number place) = []
 
 abbrev pub tells : Refusal → Outcome
 tells r = Refused (r .number) (r .place)

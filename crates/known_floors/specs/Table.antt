@@ -36,31 +36,40 @@ line text = text ++ (10 ∷ [])
 abbrev pub lines : List (List ℕ) → List ℕ
 lines texts = joined line texts
 
--- a log of one record, of megacell (0, 0), in which the start (1, 1) lies; no side is open, the counts are 0, and the record names the next
+-- A log of one good record, that of megacell (0, 0), in which the start (1, 1) lies: the record names a next one, tells no side
+-- open, and has counts of 0.
 abbrev pub oneRecord : ℕ → List ℕ
-oneRecord next = 0 ∷ 1 ∷ 0 ∷ 1 ∷ 1 ∷ 1 ∷ 0 ∷ 0 ∷ 0 ∷ next ∷ 0 ∷ 0 ∷ 0 ∷ 0 ∷ 0 ∷ 0 ∷ 0 ∷ 0 ∷ 0 ∷ 0 ∷ 0 ∷ 0 ∷ 0 ∷ 0 ∷ []
+oneRecord next =
+    0 ∷ 1 ∷ 0 ∷ 1 ∷ 1 ∷ 1 ∷ 0 ∷ 0
+    ∷ 0 ∷ next ∷ 0 ∷ 0 ∷ 0 ∷ 0 ∷ 0 ∷ 0 ∷ 0 ∷ 0 ∷ 0 ∷ 0 ∷ 0 ∷ 0 ∷ 0 ∷ 0 ∷ []
 
-abbrev pub floors : List Row
-floors =
-    map (lines (codes "S" ∷ [])) 0 (Sheet (lines (codes "START 1 1" ∷ codes "NWSE" ∷ codes "HOME 4 2 1" ∷ [])))
-    ∷ map (lines (codes "S" ∷ [])) 4 (Sheet (lines (codes "START 1 62" ∷ codes "ENWS" ∷ codes "HOME 4 2 1" ∷ [])))
-    ∷ map (lines (codes "S." ∷ [])) 0 (Sheet (lines (codes "START 1 1" ∷ codes "EENWWWSE" ∷ codes "HOME 8 4 2" ∷ [])))
-    ∷ map (lines (codes "S." ∷ codes ".#" ∷ [])) 0 (Sheet (lines (codes "START 1 1" ∷ codes "EENWWWSSSENN" ∷ codes "HOME 12 6 3" ∷ [])))
-    ∷ []
+-- one free megacell, two, and three around a corner
+abbrev pub single : List ℕ
+single = lines (codes "S" ∷ [])
 
-abbrev pub places : List Row
-places = place 1 1 1 1 62 ∷ place 4 5 40 5 23 ∷ []
+abbrev pub double : List ℕ
+double = lines (codes "S." ∷ [])
 
-abbrev pub refusals : List Row
-refusals =
-    map (lines (codes ".S" ∷ codes "S." ∷ [])) 0 (Refused 6 3)
+abbrev pub corner : List ℕ
+corner = lines (codes "S." ∷ codes ".#" ∷ [])
+
+-- The table. Frame 0 alters nothing, frame 1 is one quarter turn, and frame 4 is the mirror.
+abbrev pub table : List Row
+table =
+    map single 0 (Sheet (lines (codes "START 1 1" ∷ codes "NWSE" ∷ codes "HOME 4 2 1" ∷ [])))
+    ∷ map single 4 (Sheet (lines (codes "START 1 62" ∷ codes "ENWS" ∷ codes "HOME 4 2 1" ∷ [])))
+    ∷ map double 0 (Sheet (lines (codes "START 1 1" ∷ codes "EENWWWSE" ∷ codes "HOME 8 4 2" ∷ [])))
+    ∷ map corner 0 (Sheet (lines (codes "START 1 1" ∷ codes "EENWWWSSSENN" ∷ codes "HOME 12 6 3" ∷ [])))
+    ∷ place 1 1 1 1 62
+    ∷ place 4 5 40 5 23
+    -- two starts, and none
+    ∷ map (lines (codes ".S" ∷ codes "S." ∷ [])) 0 (Refused 6 3)
     ∷ map (lines (codes "#" ∷ [])) 0 (Refused 6 2)
+    -- a row without its LF, and one of another width than the first
     ∷ map (codes "S") 0 (Refused 4 0)
     ∷ map (lines (codes "S.." ∷ codes ".." ∷ [])) 0 (Refused 4 4)
+    -- no record; a first index, and none to follow it to; a record that names itself
     ∷ log (0 ∷ 0 ∷ 0 ∷ 0 ∷ 0 ∷ 0 ∷ 0 ∷ 0 ∷ []) 0 (Refused 12 0)
     ∷ log (0 ∷ 0 ∷ 0 ∷ 1 ∷ 0 ∷ 0 ∷ 0 ∷ 0 ∷ []) 0 (Refused 9 0)
     ∷ log (oneRecord 1) 0 (Refused 11 1)
     ∷ []
-
-abbrev pub table : List Row
-table = floors ++ places ++ refusals
