@@ -1,2 +1,3 @@
 pub mod Outcomes
 pub mod Table
+pub mod Calls
