@@ -7,7 +7,6 @@ use Rattle.std.specs.declared.option.Option.{Option}
 use Rattle.std.specs.declared.option.Option.the-variants.{Some, None}
 use Rattle.std.specs.declared.result.Result.{Result}
 use Rattle.std.specs.declared.result.Result.the-variants.{Ok, Err}
-use Rattle.fault.specs.Refusals.{Refusal}
 use Rattle.board.specs.declared.place.Place.{Place}
 use Rattle.board.specs.Floors.{Floor}
 use Rattle.frame.specs.declared.fault.FrameFault.the-variants.{Unknown}
@@ -36,11 +35,9 @@ abbrev pub bytesOf : Outcome → List ℕ
 bytesOf (Sheet text) = text
 bytesOf (Refused number place) = []
 
-abbrev pub tells : Refusal → Outcome
-tells r = Refused (r .number) (r .place)
-
+-- what a fault tells
 abbrev pub refusedBy : SurveyFault → Outcome
-refusedBy e = tells (told e)
+refusedBy e = Refused (told e .number) (told e .place)
 
 -- one run from s, with a tour buffer of 4,096 bytes, and its sheet
 abbrev pub driven : Floor → Place → Outcome
@@ -50,7 +47,7 @@ abbrev pub drawn : ℕ → Result Drawing MapFault → Outcome
 drawn f (Ok d) = driven (mapFloor f d) (mapStart f d)
 drawn f (Err e) = refusedBy (Map e)
 
--- the frame is checked first
+-- the number of the frame is checked first
 abbrev pub inFrame : ℕ → Outcome → Outcome
 inFrame f outcome = cond (ltb f 8) outcome (refusedBy (Frame (Unknown f)))
 
@@ -58,7 +55,7 @@ inFrame f outcome = cond (ltb f 8) outcome (refusedBy (Frame (Unknown f)))
 abbrev pub surveyedMap : List ℕ → ℕ → Outcome
 surveyedMap m f = inFrame f (drawn f (answer m))
 
--- an accepted log has a start
+-- the run from a log's start (bytes without one are not accepted)
 abbrev pub startedAt : ℕ → List ℕ → Option Place → Outcome
 startedAt f b (Some s) = driven (floorSeen f b) (placeSeen (frameOf f) s)
 startedAt f b None = refusedBy (Log BadHeader)
