@@ -119,9 +119,9 @@ pub fn lay_out_refusal<F: Fault>(line: &mut [u8], fault: &F) -> Result<usize, Sh
         (now (line .entry)) (now (line .exit)) r ⌝ }
 {
     let numbers = [fault.number() as usize, fault.place()];
-    let needed = worded_length(b"REFUSED", &numbers);
-    if line.len() < needed {
-        return Err(SheetFault::Short { needed });
+    let length = worded_length(b"REFUSED", &numbers);
+    if line.len() < length {
+        return Err(SheetFault::Short { needed: length });
     }
     Ok(worded_line(line, b"REFUSED", &numbers))
 }
