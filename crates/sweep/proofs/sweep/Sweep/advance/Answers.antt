@@ -8,8 +8,8 @@ use Rattle.std.specs.declared.result.Result.the-variants.{Err}
 use Rattle.std.proofs.shelf.Results.{cases-weaker}
 use Rattle.board.specs.Floors.{Lawful}
 use Rattle.sweep.specs.declared.fault.SweepFault.the-variants.{Home}
-use Rattle.sweep.proofs.Telling.{journey-step, chart-step, journey-idle, next-move, never-blocked, barred-refuses, at-err, either-way}
-use Rattle.sweep.proofs.Running.{still-self}
+use Rattle.sweep.proofs.Telling.{move-keeps-journey, move-keeps-chart, journey-idles-at-home, move-is-next, next-is-never-barred, barred-step-refuses, at-err, either-way}
+use Rattle.sweep.proofs.Running.{unchanged-is-still}
 use Rattle.sweep.proofs.sweep.Sweep.advance.Needs as need
 
 -- home already: nothing changes
@@ -21,9 +21,9 @@ returns-in-Break-need-underway g c =
     let r = c .from-residual-in-Break-need-underway .result in
     let is : r ≡ Err Home = search needs in
     record {
-      done = at-err _ _ r Home is ((room, homed, refl), still-self (g .R·Rover) sweep (c .args .slots .now));
+      done = at-err _ _ r Home is ((room, homed, refl), unchanged-is-still (g .R·Rover) sweep (c .args .slots .now));
       law = λ origin asked _ st. (
-        journey-idle (g .R·Rover) origin (record { both = g .R·Rover·met .sides origin; edge = g .R·Rover·met .edge origin }) asked sweep st (asked + 1) homed (omega (arith, st .workings .most)),
+        journey-idles-at-home (g .R·Rover) origin (record { both = g .R·Rover·met .sides origin; edge = g .R·Rover·met .edge origin }) asked sweep st (asked + 1) homed (omega (arith, st .workings .most)),
         at-err _ _ r Home is (homed, refl),
       );
       chart = λ origin asked st ch. ch;
@@ -40,17 +40,17 @@ returns g c =
     let r = c .make-move .result in
     let w = c .make-move .ensures in
     record {
-      done = cases-weaker r w (λ v k. (room, far, k .0)) (λ e k. (barred-refuses (length (c .args .slots .now)) room far (k .0), k .1));
+      done = cases-weaker r w (λ v k. (room, far, k .0)) (λ e k. (barred-step-refuses (length (c .args .slots .now)) room far (k .0), k .1));
       law = λ origin asked _ st. (
         either-way r (cases-weaker r w
-            (λ v k. journey-step (g .R·Rover) origin (laws origin) asked sweep st _ _ _ _ _ far (k .0) (k .1))
-            (λ e k. absurd (never-blocked (g .R·Rover) origin (laws origin) asked sweep st far (k .0 .blocked)))),
+            (λ v k. move-keeps-journey (g .R·Rover) origin (laws origin) asked sweep st _ _ _ _ _ far (k .0) (k .1))
+            (λ e k. absurd (next-is-never-barred (g .R·Rover) origin (laws origin) asked sweep st far (k .0 .blocked)))),
         cases-weaker r w
-            (λ v k. (far, next-move (g .R·Rover) origin (laws origin) asked sweep st _ _ _ _ _ far (k .0) (k .1)))
-            (λ e k. absurd (never-blocked (g .R·Rover) origin (laws origin) asked sweep st far (k .0 .blocked))),
+            (λ v k. (far, move-is-next (g .R·Rover) origin (laws origin) asked sweep st _ _ _ _ _ far (k .0) (k .1)))
+            (λ e k. absurd (next-is-never-barred (g .R·Rover) origin (laws origin) asked sweep st far (k .0 .blocked))),
       );
       chart = λ origin asked st ch. either-way r (cases-weaker r w
-          (λ v k. chart-step (g .R·Rover) origin (laws origin) asked sweep st _ _ _ _ _ far (k .0) (k .1) ch)
-          (λ e k. absurd (never-blocked (g .R·Rover) origin (laws origin) asked sweep st far (k .0 .blocked))));
+          (λ v k. move-keeps-chart (g .R·Rover) origin (laws origin) asked sweep st _ _ _ _ _ far (k .0) (k .1) ch)
+          (λ e k. absurd (next-is-never-barred (g .R·Rover) origin (laws origin) asked sweep st far (k .0 .blocked))));
       short = λ origin asked few st. absurd (omega (arith, few, room));
     }
