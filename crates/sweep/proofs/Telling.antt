@@ -1,4 +1,4 @@
--- From the code's facts to the promise.
+-- From what the code does by its table to the promise: at the start, by a move, and at home.
 use mathlib.Core.Path.{_≡_, refl, sym, _∙_, ap, subst}
 use mathlib.Core.List.{List, [], _∷_}
 use mathlib.Core.Bool.{Bool, true, false}
@@ -37,12 +37,14 @@ use Rattle.chart.specs.declared.slot.Slot.the-variants.{Empty, Holds}
 use Rattle.chart.specs.Charts.{slotAt, Blank}
 use Rattle.sweep.specs.declared.mark.Mark.{Mark}
 use Rattle.sweep.specs.declared.fault.SweepFault.{SweepFault}
+use Rattle.sweep.specs.declared.fault.SweepFault.the-variants.{Home}
+use Rattle.sweep.specs.declared.sweep.Moved.{Moved}
 use Rattle.sweep.specs.declared.sweep.Sweep.{Sweep}
 use Rattle.sweep.specs.Table.{choice, decided, found, isFound, marked}
 use Rattle.sweep.specs.Promise.{Promise, NextMove}
 use Rattle.sweep.specs.Faults.{told}
 use Rattle.sweep.specs.Journey.{countedBy, Journey, Charts}
-use Rattle.sweep.specs.Single.{countedIf, Steps, Barred, Refuses, ByTable, decidedFor, foundFor, Begun}
+use Rattle.sweep.specs.Single.{countedIf, Steps, Still, Barred, Refuses, ByTable, decidedFor, foundFor, Begun}
 use Rattle.sweep.proofs.Following.{Tells, After, decided-by-the-rules, move-leaves}
 
 min-left : (a b : ℕ) → a ≤ b → min a b ≡ a
@@ -318,9 +320,31 @@ barred-step-refuses {G = G} {sweep = sweep} {h = h} slots room far b = subst (λ
 pub at-err : {X Y : Type 0} (P : X → Type 0) (Q : Y → Type 0) (r : Result X Y) (e : Y) → r ≡ Err e → Q e → Cases r P Q
 at-err {X = X} {Y = Y} P Q r e i q = subst (λ (x : Result X Y). Cases x P Q) (sym i) q
 
-pub either-way : {X Y : Type 0} {S : Type 0} (r : Result X Y) → Cases r (λ _. S) (λ _. S) → S
-either-way (Ok x) s = s
-either-way (Err y) s = s
+-- What an advance promises, by what the table made of it.
+module _ {R A : Type 0} (G : Ghosts R A) (laws : (r : R) → Lawful (G .floor r)) (sweep : Sweep R A) (slots : List (Slot A)) (after : Sweep R A) (slotsAfter : List (Slot A)) (room : 4096 ≤ length slots) (far : sweep .home ≡ false) where
+  abbrev MadeOrBarred : Result Moved SweepFault → Type 0
+  MadeOrBarred r = Cases r
+      (λ v. Steps G sweep slots after slotsAfter (v .heading) (v .place) × ByTable G sweep after (v .heading))
+      (λ e. Barred G sweep (decidedFor G sweep .heading) e × Still G sweep slots after slotsAfter)
+
+  pub advance-is-done : (r : Result Moved SweepFault) → MadeOrBarred r → Cases r
+      (λ v. (4096 ≤ length slots) × (sweep .home ≡ false) × Steps G sweep slots after slotsAfter (v .heading) (v .place))
+      (λ e. Refuses G sweep (length slots) e × Still G sweep slots after slotsAfter)
+  advance-is-done (Ok v) w = (room, far, w .0)
+  advance-is-done (Err e) w = (barred-step-refuses (length slots) room far (w .0), w .1)
+
+  pub advance-keeps-journey : (r : Result Moved SweepFault) → MadeOrBarred r → (origin : R) (asked : ℕ) → Journey G origin asked sweep → Journey G origin (asked + 1) after × Cases r
+      (λ v. (sweep .home ≡ false) × NextMove (G .floor origin) (G .place origin) (sweep .moves) (v .heading) (v .place))
+      (λ e. (sweep .home ≡ true) × (e ≡ Home))
+  advance-keeps-journey (Ok v) w origin asked st = (
+    move-keeps-journey G origin (laws origin) asked sweep st after slots slotsAfter (v .heading) (v .place) far (w .0) (w .1),
+    (far, move-is-next G origin (laws origin) asked sweep st after slots slotsAfter (v .heading) (v .place) far (w .0) (w .1)),
+  )
+  advance-keeps-journey (Err e) w origin asked st = absurd (next-is-never-barred G origin (laws origin) asked sweep st far (w .0 .blocked))
+
+  pub advance-keeps-chart : (r : Result Moved SweepFault) → MadeOrBarred r → (origin : R) (asked : ℕ) → Journey G origin asked sweep → Charts G origin sweep slots → Charts G origin after slotsAfter
+  advance-keeps-chart (Ok v) w origin asked st ch = move-keeps-chart G origin (laws origin) asked sweep st after slots slotsAfter (v .heading) (v .place) far (w .0) (w .1) ch
+  advance-keeps-chart (Err e) w origin asked st ch = absurd (next-is-never-barred G origin (laws origin) asked sweep st far (w .0 .blocked))
 
 -- A new sweep.
 nothing-entered-yet : (floor : Floor) (s : Place) (n : ℕ) → n ≡ 0 → visited floor s n ≡ []
