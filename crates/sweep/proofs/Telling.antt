@@ -74,7 +74,7 @@ unfolding bit
 countedIf-more true k n = counted-more k n
 countedIf-more false k n = ap (λ (x : ℕ). countedBy x n) (omega arith)
 
--- The chart.
+-- The slots of a chart, after one is written.
 one-place-to-a-slot : (p q : Place) → slotOf p ≡ slotOf q → p ≡ q
 one-place-to-a-slot p q e = place-path p q (omega arith) (omega arith)
 
@@ -106,7 +106,7 @@ blank-after-a-move slots v ps q clear p h = elim (cases-bool (samePlace p q)) [
   | inr e ↦ other-slots-stay slots q p v e ∙ clear p (omega (arith, ap bit e))
 ]
 
--- The promise, from what the proof keeps.
+-- The promise of a sweep, from the place, the looks, the megacells and the home that it tells, and from how its calls went.
 pub promise-from-workings : (floor : Floor) (s : Place) (asked : ℕ) (place : Place) (n looked olds : ℕ) (isHome : Bool) → Lawful floor →
     place ≡ here s (visited floor s n) →
     looked ≡ tourLooks floor s n →
@@ -146,6 +146,7 @@ underway-at floor s m n e far k h = far k (omega arith)
 
 -- One move by the table.
 module _ {R A : Type 0} (G : Ghosts R A) (origin : R) (law : Lawful (G .floor origin)) (asked : ℕ) (sweep : Sweep R A) (st : Journey G origin asked sweep) where
+  -- the table decides for the move that the rules ask for
   decided-is-next : decidedFor G sweep ≡ moveAfter (G .floor origin) (G .place origin) (sweep .moves)
   decided-is-next =
       let f = G .floor origin in
@@ -269,6 +270,7 @@ module _ {R A : Type 0} (G : Ghosts R A) (origin : R) (law : Lawful (G .floor or
         (λ e. due-after)
         (omega (arith, due-after))
 
+    -- a move puts the reading of the entered place into the chart, and leaves the rest of it
     pub move-keeps-chart : Charts G origin sweep slots → Charts G origin after slotsAfter
     move-keeps-chart ch =
         let qs = visited (G .floor origin) (G .place origin) (sweep .moves) in
@@ -278,6 +280,7 @@ module _ {R A : Type 0} (G : Ghosts R A) (origin : R) (law : Lawful (G .floor or
           blank = λ p i. ap (λ (x : List (Slot A)). slotAt x p) slots-is ∙ blank-after-a-move slots (Holds (G .field origin q)) qs q (ch .blank) p (subst (λ (x : List Place). many (samePlace p) x ≡ 0) enters-after i);
         }
 
+    -- a move keeps the law
     pub move-keeps-journey : Journey G origin (asked + 1) after
     move-keeps-journey =
         let f = G .floor origin in
@@ -306,6 +309,7 @@ module _ {R A : Type 0} (G : Ghosts R A) (origin : R) (law : Lawful (G .floor or
           };
         }
 
+    -- and is the next one of the tour
     pub move-is-next : NextMove (G .floor origin) (G .place origin) (sweep .moves) h q
     unfolding here
     move-is-next = record {
@@ -317,6 +321,7 @@ module _ {R A : Type 0} (G : Ghosts R A) (origin : R) (law : Lawful (G .floor or
 pub barred-step-refuses : {R A : Type 0} {G : Ghosts R A} {sweep : Sweep R A} {h : Heading} {e : SweepFault} (slots : ℕ) → 4096 ≤ slots → sweep .home ≡ false → Barred G sweep h e → Refuses G sweep slots e
 barred-step-refuses {G = G} {sweep = sweep} {h = h} slots room far b = subst (λ (x : SweepFault). Refuses G sweep slots x) (sym (b .is)) (room, far, (h, record { blocked = b .blocked; is = refl; tells = ap told (sym (b .is)) ∙ b .tells }))
 
+-- what holds of the error holds by cases of the result
 pub at-err : {X Y : Type 0} (P : X → Type 0) (Q : Y → Type 0) (r : Result X Y) (e : Y) → r ≡ Err e → Q e → Cases r P Q
 at-err {X = X} {Y = Y} P Q r e i q = subst (λ (x : Result X Y). Cases x P Q) (sym i) q
 
