@@ -17,7 +17,7 @@ use Rattle.board.specs.declared.heading.Heading.{Heading}
 use Rattle.board.specs.declared.place.Place.{Place}
 use Rattle.board.specs.Headings.{letter}
 use Rattle.board.specs.Floors.{Floor, Lawful}
-use Rattle.tour.specs.Tour.{tour, letters, moveAfter}
+use Rattle.tour.specs.Tour.{tour, letters, visited, moveAfter}
 use Rattle.tour.proofs.Reach.{at-most-4096-moves}
 use Rattle.rover.specs.declared.meaning.Rover.{Ghosts}
 use Rattle.chart.specs.declared.slot.Slot.{Slot}
@@ -25,13 +25,15 @@ use Rattle.chart.specs.Charts.{Blank, SameBeyond}
 use Rattle.sweep.specs.declared.sweep.Sweep.{Sweep}
 use Rattle.sweep.specs.declared.fault.SweepFault.{SweepFault}
 use Rattle.sweep.specs.declared.fault.SweepFault.the-variants.{Chart, Home, Rover}
-use Rattle.sweep.specs.Promise.{NextMove, Letters, SameFrom}
+use Rattle.sweep.specs.Promise.{filled, Filled, NextMove, Letters, SameFrom}
 use Rattle.sweep.specs.Journey.{Journey, Charts, Wrote, Story}
 use Rattle.sweep.specs.Single.{Begun, Steps, Still, Runs, RunRefuses}
 use Rattle.sweep.specs.Calls.{wants, wantsAll, asking, Gathered, Makes}
 use Rattle.sweep.specs.declared.call.Call.{Call}
-use Rattle.sweep.proofs.Telling.{counted-plain, journey-idle}
-use Rattle.sweep.proofs.Running.{moved-beyond, still-beyond}
+use Rattle.sweep.proofs.Telling.{counted-plain, journey-idles-at-home}
+use Rattle.board.specs.Places.{slotOf}
+use Rattle.chart.specs.declared.slot.Slot.the-variants.{Holds}
+use Rattle.sweep.proofs.Running.{fills-none, fills-on, move-fills, move-leaves-beyond, refusal-leaves-beyond}
 
 -- A part of a buffer, written over: what stands before it, in it and after it.
 
@@ -55,8 +57,8 @@ part-at a k i xs h = search (needs, places)
 
 module _ {R A : Type 0} (G : Ghosts R A) (laws : (r : R) → Lawful (G .floor r)) (sweep : Sweep R A) (slots : List (Slot A)) (bytes : List ℕ) (written : ℕ) (fits : written ≤ length bytes) where
   -- no call at all, where no move is wanted
-  pub makes-none : Makes G sweep slots bytes written sweep slots bytes written 0
-  makes-none = record {
+  pub no-call-makes : Makes G sweep slots bytes written sweep slots bytes written 0
+  no-call-makes = record {
     grows = omega arith;
     fits = fits;
     long = refl;
@@ -64,13 +66,14 @@ module _ {R A : Type 0} (G : Ghosts R A) (laws : (r : R) → Lawful (G .floor r)
     rest = λ origin before room w i h. refl;
     beyond = λ i h. refl;
     law = λ origin before room w. subst (λ (k : ℕ). Gathered G origin k sweep bytes written) (omega arith) w;
+    fills = λ origin before room w. fills-none (G .floor origin) (G .field origin) (G .place origin) (sweep .moves) slots;
     chart = λ origin before room w ch. ch;
     short = λ few. (refl, refl, refl, λ origin asked st. st);
   }
 
   -- nor where no byte is left
-  pub makes-full : (wanted : ℕ) → written ≡ length bytes → Makes G sweep slots bytes written sweep slots bytes written wanted
-  makes-full wanted full = record {
+  pub full-buffer-makes : (wanted : ℕ) → written ≡ length bytes → Makes G sweep slots bytes written sweep slots bytes written wanted
+  full-buffer-makes wanted full = record {
     grows = omega arith;
     fits = fits;
     long = refl;
@@ -78,23 +81,24 @@ module _ {R A : Type 0} (G : Ghosts R A) (laws : (r : R) → Lawful (G .floor r)
     rest = λ origin before room w i h. refl;
     beyond = λ i h. refl;
     law = λ origin before room w. subst (λ (k : ℕ). Gathered G origin k sweep bytes written) (omega (arith, w .journey .workings .most, w .moves)) w;
+    fills = λ origin before room w. fills-none (G .floor origin) (G .field origin) (G .place origin) (sweep .moves) slots;
     chart = λ origin before room w ch. ch;
     short = λ few. (refl, refl, refl, λ origin asked st. st);
   }
 
   module _ (after : Sweep R A) (slotsAfter : List (Slot A)) (room : length slotsAfter ≡ length slots) (left : written < length bytes) where
     -- an advance that moves
-    pub makes-move : (h : Heading) (q : Place) → 4096 ≤ length slots → sweep .home ≡ false → Steps G sweep slots after slotsAfter h q →
+    pub advance-makes : (h : Heading) (q : Place) → 4096 ≤ length slots → sweep .home ≡ false → Steps G sweep slots after slotsAfter h q →
         ((origin : R) (asked : ℕ) → Journey G origin asked sweep → Journey G origin (asked + 1) after × NextMove (G .floor origin) (G .place origin) (sweep .moves) h q) →
         ((origin : R) (asked : ℕ) → Journey G origin asked sweep → Charts G origin sweep slots → Charts G origin after slotsAfter) →
         Makes G sweep slots bytes written after slotsAfter (set bytes written (letter h)) (written + 1) 1
-    makes-move h q enough far m law chart = record {
+    advance-makes h q enough far m law chart = record {
       grows = omega arith;
       fits = omega arith;
       long = length-set bytes written (letter h);
       room = room;
       rest = λ origin before _ w i k. let ne : i ≢ written = omega arith in getD-set-other bytes written i (letter h) 0 ne;
-      beyond = moved-beyond m;
+      beyond = move-leaves-beyond m;
       law = λ origin before _ w.
           let n = law origin (min (length bytes) before) (w .journey) in
           let small = at-most-4096-moves (G .floor origin) (laws origin) (G .place origin) (sweep .moves) (w .journey .workings .underway) in
@@ -105,30 +109,35 @@ module _ {R A : Type 0} (G : Ghosts R A) (laws : (r : R) → Lawful (G .floor r)
                 (λ i k. let ne : i ≢ written = omega arith in getD-set-other bytes written i (letter h) 0 ne ∙ w .wrote i k)
                 (getD-set-same bytes written (letter h) 0 left ∙ ap letter (n .1 .heading ∙ ap (λ (k : ℕ). moveAfter (G .floor origin) (G .place origin) k .heading) (w .moves)));
           };
+      fills = λ origin before _ w.
+          let small = at-most-4096-moves (G .floor origin) (laws origin) (G .place origin) (sweep .moves) (w .journey .workings .underway) in
+          move-fills (law origin (min (length bytes) before) (w .journey) .1) (m .moves ∙ counted-plain (sweep .moves) (omega arith)) (m .charted ∙ ap (λ (f : Place → A). set slots (slotOf q) (Holds (f q))) (w .journey .field));
       chart = λ origin before _ w ch. chart origin (min (length bytes) before) (w .journey) ch;
       short = λ few. absurd (omega arith);
     }
 
     -- an advance that is refused: the slots are too few, or the sweep is home
-    pub makes-refused : Still G sweep slots after slotsAfter →
+    pub refused-advance-makes : Still G sweep slots after slotsAfter →
         ((origin : R) (asked : ℕ) → 4096 ≤ length slots → Journey G origin asked sweep → Journey G origin (asked + 1) after × (sweep .home ≡ true)) →
         ((origin : R) (asked : ℕ) → Journey G origin asked sweep → Charts G origin sweep slots → Charts G origin after slotsAfter) →
         ((origin : R) (asked : ℕ) → length slots < 4096 → Journey G origin asked sweep → Journey G origin asked after) →
         Makes G sweep slots bytes written after slotsAfter bytes written 1
-    makes-refused s law chart short = record {
+    unfolding filled
+    refused-advance-makes s law chart short = record {
       grows = omega arith;
       fits = fits;
       long = refl;
       room = room;
       rest = λ origin before _ w i k. refl;
-      beyond = still-beyond s;
+      beyond = refusal-leaves-beyond s;
       law = λ origin before enough w.
           let n = law origin (min (length bytes) before) enough (w .journey) in
           record {
-            journey = journey-idle G origin (laws origin) (min (length bytes) before + 1) after (n .0) (min (length bytes) (before + 1)) (s .home ∙ n .1) (omega (arith, s .moves, w .journey .workings .most));
+            journey = journey-idles-at-home G origin (laws origin) (min (length bytes) before + 1) after (n .0) (min (length bytes) (before + 1)) (s .home ∙ n .1) (omega (arith, s .moves, w .journey .workings .most));
             moves = s .moves ∙ w .moves;
             wrote = w .wrote;
           };
+      fills = λ origin before _ w. record { places = []; enters = ap (visited (G .floor origin) (G .place origin)) (s .moves); fills = s .chart };
       chart = λ origin before _ w ch. chart origin (min (length bytes) before) (w .journey) ch;
       short = λ few. (refl, s .chart, refl, λ origin asked st. short origin asked few st);
     }
@@ -136,12 +145,13 @@ module _ {R A : Type 0} (G : Ghosts R A) (laws : (r : R) → Lawful (G .floor r)
   module _ (after : Sweep R A) (slotsAfter : List (Slot A)) (room : length slotsAfter ≡ length slots) (part wanted : ℕ) (out : List ℕ)
       (has : part ≡ min wanted (length bytes - written)) (full : length out ≡ part) where
     -- a run
-    pub makes-run : (n : ℕ) → Runs G sweep slots (take part (drop written bytes)) after slotsAfter out n →
+    pub run-makes : (n : ℕ) → Runs G sweep slots (take part (drop written bytes)) after slotsAfter out n →
         (sweep .home ≡ true → (n ≡ 0) × Still G sweep slots after slotsAfter) →
-        ((origin : R) (asked : ℕ) → 4096 ≤ length slots → Journey G origin asked sweep → Journey G origin (asked + length (take part (drop written bytes))) after × (after .moves ≡ sweep .moves + n) × Letters (G .floor origin) (G .place origin) (sweep .moves) n out) →
+        ((origin : R) (asked : ℕ) → 4096 ≤ length slots → Journey G origin asked sweep → Journey G origin (asked + length (take part (drop written bytes))) after × (after .moves ≡ sweep .moves + n) × Letters (G .floor origin) (G .place origin) (sweep .moves) n out
+        × Filled (G .floor origin) (G .field origin) (G .place origin) (sweep .moves) (after .moves) slots slotsAfter) →
         ((origin : R) (asked : ℕ) → Journey G origin asked sweep → Charts G origin sweep slots → Charts G origin after slotsAfter) →
         Makes G sweep slots bytes written after slotsAfter (putMid written part bytes out) (written + n) wanted
-    makes-run n runs idle law chart =
+    run-makes n runs idle law chart =
         let fit : written + part ≤ length bytes = omega arith in
         let size : length (take part (drop written bytes)) ≡ part = part-length written part bytes fit in
         let few : n ≤ part = omega (arith, runs .fits, size) in
@@ -164,7 +174,7 @@ module _ {R A : Type 0} (G : Ghosts R A) (laws : (r : R) → Lawful (G .floor r)
                 journey = elim (cases-bool (sweep .home)) [
                   | inl e ↦
                       let s = idle e .1 in
-                      journey-idle G origin (laws origin) (min (length bytes) before + length (take part (drop written bytes))) after (t .0) (min (length bytes) (before + wanted)) (s .home ∙ e) (omega (arith, s .moves, w .journey .workings .most))
+                      journey-idles-at-home G origin (laws origin) (min (length bytes) before + length (take part (drop written bytes))) after (t .0) (min (length bytes) (before + wanted)) (s .home ∙ e) (omega (arith, s .moves, w .journey .workings .most))
                   | inr e ↦ subst (λ (x : ℕ). Journey G origin x after) (omega (arith, size, w .journey .workings .due e, w .moves)) (t .0)
                 ];
                 moves = t .1 ∙ omega (arith, w .moves);
@@ -177,16 +187,17 @@ module _ {R A : Type 0} (G : Ghosts R A) (laws : (r : R) → Lawful (G .floor r)
                       ap (λ (x : ℕ). getD (putMid written part bytes out) x 0) e ∙ put-inside written part j bytes out fits (omega arith) ∙ t .2 j (omega arith) ∙ ap (λ (x : ℕ). letter (moveAfter (G .floor origin) (G .place origin) x .heading)) f
                 ];
               };
+          fills = λ origin before enough w. law origin (min (length bytes) before) enough (w .journey) .3;
           chart = λ origin before _ w ch. chart origin (min (length bytes) before) (w .journey) ch;
           short = λ lack. absurd (omega (arith, lack, runs .room));
         }
 
     -- a run that is refused: the slots are too few
-    pub makes-run-refused : (e : SweepFault) → RunRefuses G sweep slots (take part (drop written bytes)) after slotsAfter out e →
+    pub refused-run-makes : (e : SweepFault) → RunRefuses G sweep slots (take part (drop written bytes)) after slotsAfter out e →
         ((origin : R) (asked : ℕ) → 4096 ≤ length slots → Journey G origin asked sweep → ⊥) →
         ((origin : R) (asked : ℕ) → length slots < 4096 → Journey G origin asked sweep → Journey G origin asked after) →
         Makes G sweep slots bytes written after slotsAfter (putMid written part bytes out) written wanted
-    makes-run-refused e why never short =
+    refused-run-makes e why never short =
         let fit : written + part ≤ length bytes = omega arith in
         record {
           grows = omega arith;
@@ -196,12 +207,13 @@ module _ {R A : Type 0} (G : Ghosts R A) (laws : (r : R) → Lawful (G .floor r)
           rest = λ origin before enough w. absurd (never origin (min (length bytes) before) enough (w .journey));
           beyond = beyond-by e why;
           law = λ origin before enough w. absurd (never origin (min (length bytes) before) enough (w .journey));
+          fills = λ origin before enough w. absurd (never origin (min (length bytes) before) enough (w .journey));
           chart = λ origin before enough w ch. absurd (never origin (min (length bytes) before) enough (w .journey));
           short = λ lack. let k = short-by e why lack in (refl, k .0, ap (putMid written part bytes) (k .1) ∙ put-same written part bytes, λ origin asked st. short origin asked lack st);
         }
       where
         beyond-by : (e : SweepFault) → RunRefuses G sweep slots (take part (drop written bytes)) after slotsAfter out e → SameBeyond slots slotsAfter
-        beyond-by (Chart e) w = still-beyond (w .1)
+        beyond-by (Chart e) w = refusal-leaves-beyond (w .1)
         beyond-by Home w = absurd w
         beyond-by (Rover e) w = w .0 .2 .beyond
 
@@ -216,9 +228,9 @@ module _ {R A : Type 0} (G : Ghosts R A) (sweep : Sweep R A) (slots : List (Slot
   gathered-between : (origin : R) (before : ℕ) → 4096 ≤ length slots → Gathered G origin (min (length bytes) before) sweep bytes written → Gathered G origin (min (length bytesMid) (before + wanted)) mid bytesMid writtenMid
   gathered-between origin before enough w = subst (λ (x : ℕ). Gathered G origin (min x (before + wanted)) mid bytesMid writtenMid) (sym (first .long)) (first .law origin before enough w)
 
-  pub makes-more : (after : Sweep R A) (slotsAfter : List (Slot A)) (bytesAfter : List ℕ) (writtenAfter more : ℕ) → Makes G mid slotsMid bytesMid writtenMid after slotsAfter bytesAfter writtenAfter more →
+  pub calls-make-on : (after : Sweep R A) (slotsAfter : List (Slot A)) (bytesAfter : List ℕ) (writtenAfter more : ℕ) → Makes G mid slotsMid bytesMid writtenMid after slotsAfter bytesAfter writtenAfter more →
       Makes G sweep slots bytes written after slotsAfter bytesAfter writtenAfter (wanted + more)
-  makes-more after slotsAfter bytesAfter writtenAfter more next = record {
+  calls-make-on after slotsAfter bytesAfter writtenAfter more next = record {
     grows = omega (arith, first .grows, next .grows);
     fits = omega (arith, first .long, next .fits);
     long = next .long ∙ first .long;
@@ -228,6 +240,7 @@ module _ {R A : Type 0} (G : Ghosts R A) (sweep : Sweep R A) (slots : List (Slot
     law = λ origin before enough w.
         subst (λ (x : ℕ). Gathered G origin x after bytesAfter writtenAfter) (omega (arith, first .long))
         (next .law origin (before + wanted) (omega (arith, enough, first .room)) (gathered-between origin before enough w));
+    fills = λ origin before enough w. fills-on (first .fills origin before enough w) (next .fills origin (before + wanted) (omega (arith, enough, first .room)) (gathered-between origin before enough w));
     chart = λ origin before enough w ch. next .chart origin (before + wanted) (omega (arith, enough, first .room)) (gathered-between origin before enough w) (first .chart origin before enough w ch);
     short = λ lack.
         let a = first .short lack in
@@ -284,12 +297,13 @@ module _ {R A : Type 0} (G : Ghosts R A) (rover : R) (sweep : Sweep R A) (slots 
   gathered-at-end : 4096 ≤ length slots → Gathered G rover (asking cs (length bytes)) after bytesAfter written
   gathered-at-end room = subst (λ (k : ℕ). Gathered G rover k after bytesAfter written) (omega arith) (made .law rover 0 room gathered-at-start)
 
-  pub calls-anyway : 4096 ≤ length slots → Journey G rover (asking cs (length bytes)) after × Wrote G rover after bytesAfter
+  pub calls-anyway : 4096 ≤ length slots → Journey G rover (asking cs (length bytes)) after × Wrote G rover after bytesAfter × Filled (G .floor rover) (G .field rover) (G .place rover) 0 (after .moves) slots slotsAfter
   calls-anyway room =
       let w = gathered-at-end room in
       let is = w .moves in (
         w .journey,
         letters-listed (G .floor rover) (G .place rover) (after .moves) bytesAfter (omega (arith, made .fits, made .long)) (λ i h. w .wrote i (omega arith)),
+        subst (λ (n : ℕ). Filled (G .floor rover) (G .field rover) (G .place rover) n (after .moves) slots slotsAfter) (begun .moves) (made .fills rover 0 room gathered-at-start),
       )
 
   pub calls-promise : ((free : List (Slot A)) → Blank free → Charts G rover sweep free) → Blank slots → Story G rover (asking cs (length bytes)) after slotsAfter bytesAfter

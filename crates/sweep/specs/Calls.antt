@@ -11,7 +11,7 @@ use Rattle.chart.specs.Charts.{SameBeyond}
 use Rattle.sweep.specs.declared.call.Call.{Call}
 use Rattle.sweep.specs.declared.call.Call.the-variants.{Advance, Run, Ask}
 use Rattle.sweep.specs.declared.sweep.Sweep.{Sweep}
-use Rattle.sweep.specs.Promise.{SameFrom}
+use Rattle.sweep.specs.Promise.{SameFrom, Filled}
 use Rattle.sweep.specs.Journey.{Journey, Charts}
 
 -- the moves that a call asks for: one for an advance, as many as its buffer has bytes for a run, none for the questions
@@ -47,5 +47,6 @@ pub record Makes {R A : Type 0} (G : Ghosts R A) (sweep : Sweep R A) (slots : Li
   pub beyond : SameBeyond slots slotsAfter
   pub law : (origin : R) (before : ℕ) → 4096 ≤ length slots → Gathered G origin (min (length bytes) before) sweep bytes written → Gathered G origin (min (length bytes) (before + wanted)) after bytesAfter writtenAfter
   pub rest : (origin : R) (before : ℕ) → 4096 ≤ length slots → Gathered G origin (min (length bytes) before) sweep bytes written → SameFrom writtenAfter bytes bytesAfter
+  pub fills : (origin : R) (before : ℕ) → 4096 ≤ length slots → Gathered G origin (min (length bytes) before) sweep bytes written → Filled (G .floor origin) (G .field origin) (G .place origin) (sweep .moves) (after .moves) slots slotsAfter
   pub chart : (origin : R) (before : ℕ) → 4096 ≤ length slots → Gathered G origin (min (length bytes) before) sweep bytes written → Charts G origin sweep slots → Charts G origin after slotsAfter
   pub short : length slots < 4096 → (writtenAfter ≡ written) × (slotsAfter ≡ slots) × (bytesAfter ≡ bytes) × ((origin : R) (asked : ℕ) → Journey G origin asked sweep → Journey G origin asked after)

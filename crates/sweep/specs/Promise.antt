@@ -1,13 +1,13 @@
 -- What a sweep promises, over its history: it began at the place s on this floor, and made the first n moves of the tour that the rules give from there.
 use mathlib.Core.Path.{_≡_}
-use mathlib.Core.List.{List}
+use mathlib.Core.List.{List, [], _∷_, _++_}
 use mathlib.Core.Bool.{Bool, true}
 use Prim.Native.Nat.{ℕ, _+_, _*_, _≤_, _<_, min}
-use lib.ListN.{getD, length}
+use lib.ListN.{getD, length, set}
 use Rattle.board.specs.declared.heading.Heading.{Heading}
 use Rattle.board.specs.declared.place.Place.{Place}
 use Rattle.board.specs.Headings.{letter}
-use Rattle.board.specs.Places.{megacellOf}
+use Rattle.board.specs.Places.{megacellOf, slotOf}
 use Rattle.board.specs.Floors.{Floor}
 use Rattle.tour.specs.History.{times, Has, here, old}
 use Rattle.tour.specs.Ground.{Ground, Number}
@@ -44,6 +44,17 @@ pub record OnChart {A : Type 0} (floor : Floor) (field : Place → A) (s : Place
   pub room : 4096 ≤ length slots
   pub charted : (p : Place) → Has (visited floor s n) p → slotAt slots p ≡ Holds (field p)
   pub blank : (p : Place) → times p (visited floor s n) ≡ 0 → slotAt slots p ≡ Empty
+
+-- the slots after some places were entered, the last of them first: each got its reading, and no other slot was written
+unfoldable pub filled : {A : Type 0} → (Place → A) → List Place → List (Slot A) → List (Slot A)
+filled field [] slots = slots
+filled field (p ∷ ps) slots = set (filled field ps slots) (slotOf p) (Holds (field p))
+
+-- what the moves from the first n on, up to the first m, did to the slots, whatever these held
+pub record Filled {A : Type 0} (floor : Floor) (field : Place → A) (s : Place) (n m : ℕ) (slots after : List (Slot A)) : Type 0 where
+  pub places : List Place
+  pub enters : visited floor s m ≡ places ++ visited floor s n
+  pub fills : after ≡ filled field places slots
 
 -- the move that comes after the first n: its heading, and the place that it enters
 pub record NextMove (floor : Floor) (s : Place) (n : ℕ) (h : Heading) (q : Place) : Type 0 where

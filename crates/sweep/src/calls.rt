@@ -2,7 +2,7 @@ ghost use mathlib.Core.Path.{_≡_};
 ghost use Prim.Native.Nat.{_≤_, _<_};
 ghost use lib.ListN.{length};
 ghost use Rattle.chart.specs.Charts.{Blank, SameBeyond};
-ghost use Rattle.sweep.specs.Promise.{SameFrom};
+ghost use Rattle.sweep.specs.Promise.{SameFrom, Filled};
 ghost use Rattle.sweep.specs.Journey.{Journey, Wrote, Story};
 ghost use Rattle.sweep.specs.Calls.{Makes, wants, asking};
 use crate::call::Call;
@@ -88,7 +88,7 @@ pub fn make_calls<R: Rover>(
     tour: &mut [u8],
 ) -> Sweep<R>
     ensures promise { λ r. ⌜ (Blank (now (slots .entry)) → Story R·Rover rover (asking (now (calls .entry)) (length (now (tour .entry)))) r (now (slots .exit)) (now (tour .exit))) ⌝ }
-    ensures anyway { λ r. ⌜ (4096 ≤ length (now (slots .entry)) → Journey R·Rover rover (asking (now (calls .entry)) (length (now (tour .entry)))) r × Wrote R·Rover rover r (now (tour .exit))) ⌝ }
+    ensures anyway { λ r. ⌜ (4096 ≤ length (now (slots .entry)) → Journey R·Rover rover (asking (now (calls .entry)) (length (now (tour .entry)))) r × Wrote R·Rover rover r (now (tour .exit)) × Filled (R·Rover .floor rover) (R·Rover .field rover) (R·Rover .place rover) 0 (r .moves) (now (slots .entry)) (now (slots .exit))) ⌝ }
     ensures short { λ r. ⌜ (length (now (slots .entry)) < 4096 → Journey R·Rover rover 0 r × (now (slots .exit) ≡ now (slots .entry)) × (now (tour .exit) ≡ now (tour .entry))) ⌝ }
     ensures rest { λ r. ⌜ SameFrom (r .moves) (now (tour .entry)) (now (tour .exit)) ⌝ }
     ensures beyond { λ _. ⌜ SameBeyond (now (slots .entry)) (now (slots .exit)) ⌝ }

@@ -4,7 +4,7 @@ ghost use mathlib.Core.Logic.{_⊎_};
 ghost use Prim.Native.Nat.{ℕ, _+_, _≤_, _<_};
 ghost use lib.ListN.{length};
 ghost use Rattle.std.specs.Results.{Cases};
-ghost use Rattle.sweep.specs.Promise.{Letters};
+ghost use Rattle.sweep.specs.Promise.{Letters, Filled};
 ghost use Rattle.sweep.specs.Journey.{Journey, Charts};
 ghost use Rattle.sweep.specs.Single.{Still, Runs, RunRefuses};
 use super::Ran;
@@ -34,7 +34,8 @@ impl<R: Rover> Sweep<R> {
         ensures law { λ r. ⌜ ((origin : R) (asked : ℕ) → 4096 ≤ length (now (slots .entry)) → Journey R·Rover origin asked (now (self .entry)) →
             Journey R·Rover origin (asked + length (now (tour .entry))) (now (self .exit))
             × Cases r
-            (λ v. (now (self .exit) .moves ≡ now (self .entry) .moves + v .letters) × Letters (R·Rover .floor origin) (R·Rover .place origin) (now (self .entry) .moves) (v .letters) (now (tour .exit)))
+            (λ v. (now (self .exit) .moves ≡ now (self .entry) .moves + v .letters) × Letters (R·Rover .floor origin) (R·Rover .place origin) (now (self .entry) .moves) (v .letters) (now (tour .exit))
+            × Filled (R·Rover .floor origin) (R·Rover .field origin) (R·Rover .place origin) (now (self .entry) .moves) (now (self .exit) .moves) (now (slots .entry)) (now (slots .exit)))
             (λ e. ⊥)) ⌝ }
         ensures chart { λ _. ⌜ ((origin : R) (asked : ℕ) → Journey R·Rover origin asked (now (self .entry)) → Charts R·Rover origin (now (self .entry)) (now (slots .entry)) → Charts R·Rover origin (now (self .exit)) (now (slots .exit))) ⌝ }
         ensures short { λ _. ⌜ ((origin : R) (asked : ℕ) → length (now (slots .entry)) < 4096 → Journey R·Rover origin asked (now (self .entry)) → Journey R·Rover origin asked (now (self .exit))) ⌝ }

@@ -2,7 +2,7 @@ use mathlib.Core.Path.{sym, subst}
 use Rattle.board.specs.Floors.{Lawful}
 use Rattle.sweep.specs.declared.call.Call.{Call}
 use Rattle.sweep.specs.Calls.{Makes, wants}
-use Rattle.sweep.proofs.Gathering.{makes-none}
+use Rattle.sweep.proofs.Gathering.{no-call-makes}
 use Rattle.sweep.proofs.calls.make_call.Needs as need
 
 -- the questions alter nothing
@@ -13,4 +13,4 @@ returns-in-Ask g c =
     let slots = c .args .slots .now in
     let tour = c .args .tour .now in
     subst (λ (k : Call). Makes (g .R·Rover) sweep slots tour (c .args .written) sweep slots tour (c .args .written) (wants k)) (sym (c .in-Ask .is))
-    (makes-none (g .R·Rover) laws sweep slots tour (c .args .written) (c .pre))
+    (no-call-makes (g .R·Rover) laws sweep slots tour (c .args .written) (c .pre))

@@ -7,7 +7,7 @@ use Rattle.board.specs.Floors.{Lawful}
 use Rattle.sweep.specs.declared.call.Call.{Call}
 use Rattle.sweep.specs.declared.call.Call.the-variants.{Advance}
 use Rattle.sweep.specs.Calls.{Makes, wantsAll}
-use Rattle.sweep.proofs.Gathering.{makes-none, makes-more, wants-none, wants-more, calls-promise, calls-anyway, calls-short, calls-rest}
+use Rattle.sweep.proofs.Gathering.{no-call-makes, calls-make-on, wants-none, wants-more, calls-promise, calls-anyway, calls-short, calls-rest}
 use Rattle.sweep.proofs.calls.make_calls.Needs as need
 
 -- before the first call
@@ -15,7 +15,7 @@ pub loop-call-holds : need.loop-call-holds
 loop-call-holds g c =
     let laws : (r : g .R .Denot) → Lawful (g .R·Rover .floor r) = λ r. record { both = g .R·Rover·met .sides r; edge = g .R·Rover·met .edge r } in
     subst (λ (k : ℕ). Makes (g .R·Rover) (c .start-sweep .result) (c .args .slots .now) (c .args .tour .now) 0 (c .start-sweep .result) (c .args .slots .now) (c .args .tour .now) 0 k) (sym wants-none)
-    (makes-none (g .R·Rover) laws (c .start-sweep .result) (c .args .slots .now) (c .args .tour .now) 0 (omega arith))
+    (no-call-makes (g .R·Rover) laws (c .start-sweep .result) (c .args .slots .now) (c .args .tour .now) 0 (omega arith))
 
 -- one call more
 pub loop-call-again : need.loop-call-again
@@ -24,7 +24,7 @@ loop-call-again g c =
     let m = c .make-call-written in
     subst (λ (k : ℕ). Makes (g .R·Rover) (c .start-sweep .result) (c .args .slots .now) (c .args .tour .now) 0 (m .last .sweep) (m .last .slots) (m .last .tour) (m .result) k)
     (sym (wants-more (c .args .calls .now) (l .call-index) Advance (c .loop-call-test .taken)))
-    (makes-more (g .R·Rover) (c .start-sweep .result) (c .args .slots .now) (c .args .tour .now) 0 (l .sweep) (l .slots) (l .tour) (l .written) _ (l .inv) (m .last .sweep) (m .last .slots) (m .last .tour) (m .result) _ (m .ensures))
+    (calls-make-on (g .R·Rover) (c .start-sweep .result) (c .args .slots .now) (c .args .tour .now) 0 (l .sweep) (l .slots) (l .tour) (l .written) _ (l .inv) (m .last .sweep) (m .last .slots) (m .last .tour) (m .result) _ (m .ensures))
 
 -- after the last call
 pub returns : need.returns

@@ -5,11 +5,10 @@ use Prim.Native.Nat.{_+_, _≤_}
 use native.Mathlib.Omega.{arith}
 use lib.ListN.{length}
 use Rattle.std.specs.declared.result.Result.the-variants.{Err}
-use Rattle.std.proofs.shelf.Results.{cases-weaker}
 use Rattle.board.specs.Floors.{Lawful}
 use Rattle.sweep.specs.declared.fault.SweepFault.the-variants.{Home}
-use Rattle.sweep.proofs.Telling.{journey-step, chart-step, journey-idle, next-move, never-blocked, barred-refuses, at-err, either-way}
-use Rattle.sweep.proofs.Running.{still-self}
+use Rattle.sweep.proofs.Telling.{journey-idles-at-home, at-err, advance-is-done, advance-keeps-journey, advance-keeps-chart}
+use Rattle.sweep.proofs.Running.{unchanged-is-still}
 use Rattle.sweep.proofs.sweep.Sweep.advance.Needs as need
 
 -- home already: nothing changes
@@ -21,9 +20,9 @@ returns-in-Break-need-underway g c =
     let r = c .from-residual-in-Break-need-underway .result in
     let is : r ≡ Err Home = search needs in
     record {
-      done = at-err _ _ r Home is ((room, homed, refl), still-self (g .R·Rover) sweep (c .args .slots .now));
+      done = at-err _ _ r Home is ((room, homed, refl), unchanged-is-still (g .R·Rover) sweep (c .args .slots .now));
       law = λ origin asked _ st. (
-        journey-idle (g .R·Rover) origin (record { both = g .R·Rover·met .sides origin; edge = g .R·Rover·met .edge origin }) asked sweep st (asked + 1) homed (omega (arith, st .workings .most)),
+        journey-idles-at-home (g .R·Rover) origin (record { both = g .R·Rover·met .sides origin; edge = g .R·Rover·met .edge origin }) asked sweep st (asked + 1) homed (omega (arith, st .workings .most)),
         at-err _ _ r Home is (homed, refl),
       );
       chart = λ origin asked st ch. ch;
@@ -34,23 +33,11 @@ returns-in-Break-need-underway g c =
 pub returns : need.returns
 returns g c =
     let laws : (r : g .R .Denot) → Lawful (g .R·Rover .floor r) = λ r. record { both = g .R·Rover·met .sides r; edge = g .R·Rover·met .edge r } in
-    let sweep = c .args .self .now in
-    let far : sweep .home ≡ false = search needs in
+    let far : c .args .self .now .home ≡ false = search needs in
     let room : 4096 ≤ length (c .args .slots .now) = search needs in
-    let r = c .make-move .result in
-    let w = c .make-move .ensures in
     record {
-      done = cases-weaker r w (λ v k. (room, far, k .0)) (λ e k. (barred-refuses (length (c .args .slots .now)) room far (k .0), k .1));
-      law = λ origin asked _ st. (
-        either-way r (cases-weaker r w
-            (λ v k. journey-step (g .R·Rover) origin (laws origin) asked sweep st _ _ _ _ _ far (k .0) (k .1))
-            (λ e k. absurd (never-blocked (g .R·Rover) origin (laws origin) asked sweep st far (k .0 .blocked)))),
-        cases-weaker r w
-            (λ v k. (far, next-move (g .R·Rover) origin (laws origin) asked sweep st _ _ _ _ _ far (k .0) (k .1)))
-            (λ e k. absurd (never-blocked (g .R·Rover) origin (laws origin) asked sweep st far (k .0 .blocked))),
-      );
-      chart = λ origin asked st ch. either-way r (cases-weaker r w
-          (λ v k. chart-step (g .R·Rover) origin (laws origin) asked sweep st _ _ _ _ _ far (k .0) (k .1) ch)
-          (λ e k. absurd (never-blocked (g .R·Rover) origin (laws origin) asked sweep st far (k .0 .blocked))));
+      done = advance-is-done (g .R·Rover) laws (c .args .self .now) (c .args .slots .now) _ _ room far (c .make-move .result) (c .make-move .ensures);
+      law = λ origin asked _ st. advance-keeps-journey (g .R·Rover) laws (c .args .self .now) (c .args .slots .now) _ _ room far (c .make-move .result) (c .make-move .ensures) origin asked st;
+      chart = advance-keeps-chart (g .R·Rover) laws (c .args .self .now) (c .args .slots .now) _ _ room far (c .make-move .result) (c .make-move .ensures);
       short = λ origin asked few st. absurd (omega (arith, few, room));
     }

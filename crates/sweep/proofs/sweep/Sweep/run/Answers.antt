@@ -10,12 +10,12 @@ use Rattle.board.specs.Floors.{Lawful}
 use Rattle.std.specs.declared.result.Result.the-variants.{Err}
 use Rattle.sweep.specs.Journey.{Journey}
 use Rattle.sweep.proofs.Telling.{at-err}
-use Rattle.sweep.proofs.Running.{Running, run-none, run-more, run-done, run-refused}
+use Rattle.sweep.proofs.Running.{Running, run-of-no-move, run-of-one-more, run-is-done, run-refused-by-rover}
 use Rattle.sweep.proofs.sweep.Sweep.run.Needs as need
 use Rattle.sweep.proofs.sweep.Sweep.run.Needs.{then-loop-letters-test·else-not-self, else-loop-letters-test}
 
 pub loop-letters-holds : need.loop-letters-holds
-loop-letters-holds g c = run-none (g .R·Rover) (c .args .self .now) (c .args .slots .now) (c .args .tour .now) (search needs)
+loop-letters-holds g c = run-of-no-move (g .R·Rover) (c .args .self .now) (c .args .slots .now) (c .args .tour .now) (search needs)
 
 pub returns-in-Break-moved : need.returns-in-Break-moved
 returns-in-Break-moved g c =
@@ -25,7 +25,7 @@ returns-in-Break-moved g c =
     let is : c .from-residual-in-Break-moved .result ≡ Err (c .in-Break-moved .field-0 .0) = search needs in
     record {
       done = at-err _ _ (c .from-residual-in-Break-moved .result) (c .in-Break-moved .field-0 .0) is
-          (run-refused (g .R·Rover) laws (c .args .self .now) (c .args .slots .now) (c .args .tour .now) (c .loop-letters .self) (c .loop-letters .slots) (c .loop-letters .tour) (c .loop-letters .letters) (c .loop-letters .inv)
+          (run-refused-by-rover (g .R·Rover) laws (c .args .self .now) (c .args .slots .now) (c .args .tour .now) (c .loop-letters .self) (c .loop-letters .slots) (c .loop-letters .tour) (c .loop-letters .letters) (c .loop-letters .inv)
           (c .advance .last .self) (c .advance .last .slots) (c .in-Break-moved .field-0 .0) (omega arith) (c .if-not-self .taken) (w .done .0) (w .done .1));
       law = λ origin asked room st. absurd (never origin asked st);
       chart = λ origin asked st ch. absurd (never origin asked st);
@@ -38,7 +38,7 @@ loop-letters-again g c =
     let w = c .in-Continue-moved .ensures tt in
     subst (λ (x : ℕ). Running (g .R·Rover) (c .args .self .now) (c .args .slots .now) (c .args .tour .now) (c .advance .last .self) (c .advance .last .slots) (set (c .loop-letters .tour) (c .loop-letters .letters) x) (c .loop-letters .letters + 1))
     (sym (c .letter .ensures))
-    (run-more (g .R·Rover) laws (c .args .self .now) (c .args .slots .now) (c .args .tour .now) (c .loop-letters .self) (c .loop-letters .slots) (c .loop-letters .tour) (c .loop-letters .letters) (c .loop-letters .inv)
+    (run-of-one-more (g .R·Rover) laws (c .args .self .now) (c .args .slots .now) (c .args .tour .now) (c .loop-letters .self) (c .loop-letters .slots) (c .loop-letters .tour) (c .loop-letters .letters) (c .loop-letters .inv)
     (c .advance .last .self) (c .advance .last .slots) (c .in-Continue-moved .moved .heading) (c .in-Continue-moved .moved .place) (omega (arith, c .loop-letters .inv .room)) (omega arith) (omega arith) (c .if-not-self .taken) (w .done .2) (λ origin asked st. (w .law origin asked (c .loop-letters .inv .room) st .0, w .law origin asked (c .loop-letters .inv .room) st .1 .1)) (w .chart))
 
 pub returns : need.returns
@@ -48,10 +48,10 @@ returns g c =
       | then-loop-letters-test·else-not-self w ↦ inr (w .if-not-self .left)
       | else-loop-letters-test w ↦ inl (omega (arith, w .loop-letters-test .left, c .loop-letters .inv .runs .fits))
     ] in
-    let t = run-done (g .R·Rover) laws (c .args .self .now) (c .args .slots .now) (c .args .tour .now) (c .loop-letters .self) (c .loop-letters .slots) (c .loop-letters .tour) (c .loop-letters .letters) (c .loop-letters .inv) why in
+    let t = run-is-done (g .R·Rover) laws (c .args .self .now) (c .args .slots .now) (c .args .tour .now) (c .loop-letters .self) (c .loop-letters .slots) (c .loop-letters .tour) (c .loop-letters .letters) (c .loop-letters .inv) why in
     record {
       done = (c .loop-letters .inv .runs, refl, why, c .loop-letters .inv .idle);
-      law = λ origin asked room st. (t origin asked st .journey, (t origin asked st .moves, t origin asked st .writes));
+      law = λ origin asked room st. (t origin asked st .journey, (t origin asked st .moves, t origin asked st .writes, t origin asked st .fills));
       chart = c .loop-letters .inv .chart;
       short = λ origin asked few st. absurd (omega (arith, few, c .loop-letters .inv .runs .room));
     }

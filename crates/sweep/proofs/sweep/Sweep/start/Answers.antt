@@ -5,7 +5,7 @@ use Rattle.board.specs.declared.megacell.Megacell.{Megacell}
 use Rattle.board.specs.declared.place.Place.{Place}
 use Rattle.sweep.specs.Table.{markAt, Says}
 use Rattle.sweep.specs.Single.{Begun}
-use Rattle.sweep.proofs.Telling.{journey-start, chart-start}
+use Rattle.sweep.proofs.Telling.{journey-at-start, chart-at-start}
 use Rattle.sweep.proofs.sweep.Sweep.start.Needs as need
 
 pub returns : need.returns
@@ -15,6 +15,6 @@ returns g c =
     record { owns = refl; start = c .place-start .ensures; size = c .fresh-marks .ensures .size; tells = t; moves = refl; looks = refl; megacells = refl; home = refl } in
     record {
       begun = b;
-      law = journey-start (g .R·Rover) (c .args .rover) (record { both = g .R·Rover·met .sides (c .args .rover); edge = g .R·Rover·met .edge (c .args .rover) }) _ b;
-      chart = λ slots blank. chart-start (g .R·Rover) (c .args .rover) _ slots b blank;
+      law = journey-at-start (g .R·Rover) (c .args .rover) (record { both = g .R·Rover·met .sides (c .args .rover); edge = g .R·Rover·met .edge (c .args .rover) }) _ b;
+      chart = λ slots blank. chart-at-start (g .R·Rover) (c .args .rover) _ slots b blank;
     }
