@@ -1,6 +1,7 @@
 ghost use Rattle.log_record.specs.Faults.{told};
 use fault::Fault;
 use fault::layer::Layer;
+use std::error::Error;
 use std::fmt;
 
 /// Why a log is refused. Records are numbered from 1; number 0 is the header.
@@ -89,3 +90,5 @@ pub impl fmt::Display for LogFault as LogFaultDisplay {
         }
     }
 }
+
+pub impl Error for LogFault as LogFaultError {}

@@ -11,6 +11,7 @@ use rover::fault::RoverFault;
 use rover::fault::RoverFaultDebug;
 use rover::fault::RoverFaultDisplay;
 use rover::fault::RoverFaultTells;
+use std::error::Error;
 use std::fmt;
 
 /// Why a sweep does not move.
@@ -77,3 +78,5 @@ pub impl fmt::Display for SweepFault as SweepFaultDisplay {
         }
     }
 }
+
+pub impl Error for SweepFault as SweepFaultError {}
