@@ -55,3 +55,7 @@ returns g c =
       chart = c .loop-letters .inv .chart;
       short = λ origin asked few st. absurd (omega (arith, few, c .loop-letters .inv .runs .room));
     }
+
+-- the letters are fewer than the bytes
+pub add-letters : need.add-letters
+add-letters g c = omega arith
