@@ -1,4 +1,4 @@
--- A floor says of each megacell and heading whether that side is open.
+-- A floor: which sides of which megacells are open.
 use mathlib.Core.Path.{_≡_}
 use mathlib.Core.Bool.{Bool, true, false}
 use mathlib.Core.Logic.{_⊎_}
@@ -13,11 +13,11 @@ use Rattle.board.specs.Steps.{ahead, beside}
 abbrev pub Floor : Type 0
 Floor = Megacell → Heading → Bool
 
--- a side is the same seen from both its megacells
+-- the two megacells of a side agree on it
 abbrev pub SameFromBoth : Floor → Type 0
 SameFromBoth floor = (m n : Megacell) (h : Heading) → beside m h ≡ Some n → floor m h ≡ floor n (opposite h)
 
--- a side without a neighbour is closed
+-- no side leads off the board
 abbrev pub ClosedAtEdge : Floor → Type 0
 ClosedAtEdge floor = (m : Megacell) (h : Heading) → beside m h ≡ None → floor m h ≡ false
 

@@ -28,7 +28,7 @@ abbrev pub thereFree : Drawing → Option Megacell → Bool
 thereFree d None = false
 thereFree d (Some m) = freeAt d m
 
--- a side is open exactly when both its megacells are free
+-- a side is open between two free megacells, and closed elsewhere
 unfoldable pub floorOf : Drawing → Floor
 floorOf d m h = freeAt d m && thereFree d (beside m h)
 

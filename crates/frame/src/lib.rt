@@ -17,7 +17,7 @@ pub mod turn;
 use board::heading::Heading;
 use board::place::Place;
 
-/// A frame takes places to places and headings to headings, and back again.
+/// A frame: where each place and each heading goes, and the way back.
 pub trait Frame {
     /// where a place is taken
     ghost taken: { Self → Place → Place };
@@ -40,13 +40,13 @@ pub trait Frame {
 
     law redoes: { (f : Self) (h : Heading) → turned f (restored f h) ≡ h };
 
-    /// two subcells of one megacell stay together, there and back
+    /// places that share a megacell share one afterwards, by the frame and by its inverse
     law together: { (f : Self) (p q : Place) → megacellOf p ≡ megacellOf q → megacellOf (taken f p) ≡ megacellOf (taken f q) };
 
     law rejoined: { (f : Self) (p q : Place) → megacellOf p ≡ megacellOf q → megacellOf (returned f p) ≡ megacellOf (returned f q) };
 
-    /// to step and then take the frame is to take the frame and then step by the turned heading; and one leaves the
-    /// board exactly when the other does
+    /// it makes no difference whether a step comes before the frame or, by the turned heading, after it; a step off the
+    /// board is one in both
     law steps: { (f : Self) (p : Place) (h : Heading) → ahead (taken f p) (turned f h) ≡ mapped (taken f) (ahead p h) };
 
     /// Where the frame takes a place.

@@ -14,8 +14,8 @@ pub struct Framed<R: Rover, F: Frame> {
     pub frame: F,
 }
 
-/// Its place is where the frame takes the place below; floor and field go along, and a heading given to it goes
-/// below by the inverse. It counts what the rover below counts.
+/// It stands where the frame takes the rover below. Its floor and field are those below, seen through the frame; a
+/// heading that it is given is turned back before it is handed down. Its counts are those below.
 pub impl<R: Rover, F: Frame> Rover for Framed<R, F> as FramedRover {
     type Reading = R::Reading;
 

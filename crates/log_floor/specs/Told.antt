@@ -27,7 +27,7 @@ abbrev pub toldBeside : (Megacell → Option Record) → Option Megacell → Hea
 toldBeside told (Some n) h = toldOpen (told n) (opposite h)
 toldBeside told None h = false
 
--- a side is open exactly when both its megacells have records and both tell it open
+-- a side is open if the records on both sides of it say so; where one is missing, or says otherwise, it is closed
 unfoldable pub floorOf : (Megacell → Option Record) → Floor
 floorOf told m h = toldOpen (told m) h && toldBeside told (beside m h) h
 

@@ -8,7 +8,7 @@ use Rattle.board.specs.declared.corner.Corner.the-variants.{NorthWest, NorthEas
 use Rattle.board.specs.Headings.{headingNumber}
 use Rattle.log_record.specs.declared.record.Record.{Record}
 
--- the side at a heading is told open: the bit of value 2 to the power h is set in the sides, h being the heading's number
+-- the side at a heading is told open: its bit is set in the sides, bit 0 for north up to bit 3 for west
 unfoldable pub opens : Record → Heading → Bool
 opens r h = eqb (r .sides / 2 ^ headingNumber h % 2) 1
 

@@ -32,6 +32,6 @@ isAt None o = false
 abbrev pub goodRow : List ℕ → ℕ → ℕ → Bool
 goodRow m w o = leb 1 w && (leb w 32 && isAt (rowEnd m o) (o + w))
 
--- there is a row k, and it is empty, wider than 32, of another width than the first, or lacks its LF
+-- the map goes on at row k, and what follows is no row of the first row's width, 1 to 32, with its LF
 abbrev pub badRow : List ℕ → ℕ → Bool
 badRow m k = ltb (rowAt m k) (length m) && not (goodRow m (width m) (rowAt m k))

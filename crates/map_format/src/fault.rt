@@ -12,7 +12,7 @@ pub enum MapFault {
     Length { bytes: usize },
     /// The first byte that is not LF, `#`, `.`, `S` or a digit.
     ForbiddenByte { offset: usize },
-    /// The first row that is empty, wider than 32, of another width than the first row, or without its LF:
+    /// The first row with no cell, with over 32 cells, with more or fewer than the first row, or with no LF:
     /// where it begins.
     BadRow { offset: usize },
     /// A 33rd row: where it begins.

@@ -12,7 +12,7 @@ use board::place::Place;
 
 /// A meter rover: it stands on a floor, steps from subcell to subcell, and reads a field at each place.
 ///
-/// Its five ghost members are all that it means; no call alters the floor or the field.
+/// Its five ghost members are all that it means. Floor and field stay as they are, whatever is called.
 pub trait Rover {
     /// What it reads. A reading is stored, and a stored one is replaced: it has to be droppable, and no more.
     type Reading: Drop;
@@ -42,7 +42,7 @@ pub trait Rover {
         ensures counts { λ _. ⌜ looks (now (self .exit)) ≡ counted (looks (now (self .entry))) ⌝ }
         ensures stays { λ _. ⌜ (floor (now (self .exit)) ≡ floor (now (self .entry))) × (place (now (self .exit)) ≡ place (now (self .entry))) × (field (now (self .exit)) ≡ field (now (self .entry))) × (moves (now (self .exit)) ≡ moves (now (self .entry))) ⌝ };
 
-    /// One step, accepted exactly when the next subcell lies in the same megacell or across an open side.
+    /// One step: it is made if the next subcell belongs to the megacell stood in, or if the side between is open.
     fn step(&mut self, heading: Heading) -> Result<(), RoverFault>
         ensures done { λ r. ⌜ Cases r
             (λ _. Passes (floor (now (self .entry))) (place (now (self .entry))) heading (place (now (self .exit))) × (moves (now (self .exit)) ≡ counted (moves (now (self .entry)))))

@@ -77,7 +77,7 @@ fn put_last(sheet: &mut [u8], at: usize, ending: Record) -> usize
     at + last_line(&mut sheet[at..], ending)
 }
 
-/// Writes a sheet that has room, each line where the line before ended: its length.
+/// Writes a sheet that has room, line after line: its length.
 fn put_sheet(sheet: &mut [u8], start: Place, tour: &[u8], ending: Record) -> usize
     requires { ⌜ Room (now sheet) 0 (sheetOf start (now tour) ending) ⌝ }
     ensures { λ r. ⌜ Put (now (sheet .entry)) 0 (sheetOf start (now (tour .entry)) ending) (now (sheet .exit)) r ⌝ }
@@ -89,7 +89,7 @@ fn put_sheet(sheet: &mut [u8], start: Place, tour: &[u8], ending: Record) -> usi
 
 /// Lays out the sheet of a tour: the start, the letters, and how the sweep ended. It answers the sheet's length.
 ///
-/// The letters are not compared with the record. A refusal writes nothing.
+/// Letters and record need not agree. A refusal writes nothing.
 pub fn lay_out(
     sheet: &mut [u8],
     start: Place,

@@ -41,8 +41,8 @@ fn line_end(letters: usize, from: usize) -> usize
     }
 }
 
-/// The letters of a tour, 64 a line, at the front of the part lent: how many bytes they take. Each line is written
-/// where the line before ended.
+/// The letters of a tour, 64 a line, at the front of the part lent: how many bytes they take. A line
+/// begins where the one before it stopped.
 pub(crate) fn letter_lines(out: &mut [u8], letters: &[u8]) -> usize
     requires { ⌜ Room (now out) 0 (linesOf (now letters)) ⌝ }
     ensures { λ r. ⌜ Put (now (out .entry)) 0 (linesOf (now (letters .entry))) (now (out .exit)) r ⌝ }

@@ -15,7 +15,6 @@ mod tests {
     use survey::fault::SurveyFaultTells;
     use survey::log::survey_log;
     use survey::map::survey_map;
-    use survey_program::chart_of;
     use sweep::sweep::Record;
 
     // a chart of so many empty slots
@@ -102,12 +101,12 @@ mod tests {
 
     // a log is checked before the chart
     #[test]
-    fn log_before_chart(rt: LibcRuntime) -> Result<(), Fail> {
+    fn log_before_chart() -> Result<(), Fail> {
         let mut tour = [0u8; 3];
         let mut sheet = [0u8; 64];
-        let mut chart = chart_of(rt.alloc())?;
+        let mut chart = [Slot::Empty, Slot::Holds(7u16)];
         refused(
-            survey_log(&[0u8; 8], 0, chart.as_mut_slice(), &mut tour, &mut sheet),
+            survey_log(&[0u8; 8], 0, &mut chart, &mut tour, &mut sheet),
             12,
             0,
         )

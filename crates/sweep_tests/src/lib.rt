@@ -4,6 +4,7 @@ mod tests {
     use board::heading::Heading;
     use drawn_floor::rover::DrawnRover;
     use drawn_floor::rover::drive::DrawnRoverMeans;
+    use fault::Fault;
     use frame::mirror::Mirror;
     use frame::mirror::MirrorFrame;
     use frame::turn::Turn;
@@ -24,6 +25,7 @@ mod tests {
     use sweep::call::Call;
     use sweep::calls::make_calls;
     use sweep::fault::SweepFaultDebug;
+    use sweep::fault::SweepFaultTells;
     use sweep::sweep::Record;
     use sweep::sweep::Sweep;
 
@@ -153,6 +155,26 @@ mod tests {
         check(record.home)?;
         check_eq(record.moves, 8)?;
         check_eq(record.megacells, 2)
+    }
+
+    // home, an advance is refused with 14 at place 0
+    #[test]
+    fn no_move_at_home(rt: LibcRuntime) -> Result<(), Fail> {
+        let mut chart = chart_of(rt.alloc())?;
+        let mut tour = [0u8; 8];
+        let mut sweep = Sweep::start(drawn(b"S\n")?);
+        let ran = sweep.run(chart.as_mut_slice(), &mut tour);
+        let again = sweep.advance(chart.as_mut_slice());
+        let (_rover, record) = sweep.end();
+        check(ran?.home)?;
+        check_eq(record.moves, 4)?;
+        match again {
+            Ok(_) => check(false),
+            Err(fault) => {
+                check_eq(fault.number(), 14)?;
+                check_eq(fault.place(), 0)
+            }
+        }
     }
 
     // a list of calls writes the letters of all its moves in order

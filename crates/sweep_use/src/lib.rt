@@ -1,5 +1,5 @@
 //! The library used rightly: a rover that a sweep holds is driven by that sweep alone, and an ended sweep makes no move.
-//! The must-fail edits beside this file misuse it, and are refused by the borrow check.
+//! The edits in the folder misuse/ break this, and the borrow check refuses them.
 ghost use mathlib.Core.Path.{_≡_};
 use board::heading::Heading;
 use chart::slot::Slot;
@@ -10,8 +10,8 @@ use sweep::sweep::Moved;
 use sweep::sweep::Sweep;
 
 /// One move by a sweep, and then, the sweep ended, one step by hand.
-pub fn step_after_sweep<R: Rover>(
-    rover: R,
+fn step_after_sweep<R: Rover>(
+    mut rover: R,
     chart: &mut [Slot<R::Reading>],
     heading: Heading,
 ) -> (R, Result<(), RoverFault>)
@@ -25,10 +25,7 @@ pub fn step_after_sweep<R: Rover>(
 }
 
 /// A sweep ended before its first move, and another started with the rover given back.
-pub fn sweep_again<R: Rover>(
-    rover: R,
-    chart: &mut [Slot<R::Reading>],
-) -> (R, Result<Moved, SweepFault>)
+fn sweep_again<R: Rover>(rover: R, chart: &mut [Slot<R::Reading>]) -> (R, Result<Moved, SweepFault>)
     ensures { λ r. ⌜ (R·Rover .floor (r .0) ≡ R·Rover .floor rover) × (R·Rover .field (r .0) ≡ R·Rover .field rover) ⌝ }
 {
     let mut first = Sweep::start(rover);

@@ -17,7 +17,7 @@ unfoldable pub isFree : (Megacell → Bool) → Option Megacell → Bool
 isFree free None = false
 isFree free (Some m) = free m
 
--- the floor on which a side is open exactly when both its megacells are free
+-- the floor of a choice of free megacells: open between two of them
 unfoldable pub between : (Megacell → Bool) → Floor
 between free m h = free m && isFree free (beside m h)
 

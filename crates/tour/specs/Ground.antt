@@ -13,7 +13,7 @@ use Rattle.board.specs.Steps.{beside}
 use Rattle.board.specs.Counting.{many}
 use Rattle.board.specs.Floors.{Floor}
 
--- the ground of a start: every megacell reached from the start's across open sides, itself included
+-- the ground of a start: its own megacell, and with each megacell those behind its open sides
 pub data Ground (floor : Floor) (s : Place) : Megacell → Type 0 where
   begin : Ground floor s (megacellOf s)
   across : (m n : Megacell) (h : Heading) → Ground floor s m → floor m h ≡ true → beside m h ≡ Some n → Ground floor s n

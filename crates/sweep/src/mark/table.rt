@@ -28,7 +28,7 @@ pub(crate) fn set_mark(marks: &mut [Mark; 1024], megacell: Megacell, mark: Mark)
     marks[megacell.number()] = mark;
 }
 
-/// The marks of a new sweep: the start's megacell is old and has no parent, and every other is new.
+/// The marks of a new sweep: the root where it starts, and nothing known of the others.
 pub(crate) fn fresh(start: Place) -> [Mark; 1024]
     ensures size { λ r. ⌜ length r ≡ 1024 ⌝ }
     ensures tells { λ r. ⌜ ((m : Megacell) → Says start [] m (markAt r m)) ⌝ }
