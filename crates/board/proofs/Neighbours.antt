@@ -1,5 +1,5 @@
 -- Where a place has a next one, and what that says of their megacells.
-use Rattle.std.proofs.Common.{◌≡◌, ℕ, ◌+◌, ◌-◌, ◌*◌, ◌/◌, ◌<◌, ◌≤◌, Bool, true, false, cond, T, eqb, ltb, ◌⊎◌, Some, None, Option, sym, refl, ap, ◌∙◌, subst, inl, inr, arith, ltb→lt, lt→ltb}
+use Rattle.std.proofs.Common.{◌≡◌, ℕ, ◌-◌, ◌/◌, ◌<◌, ◌≤◌, Bool, true, false, cond, T, eqb, ltb, ◌⊎◌, Some, None, Option, sym, refl, ap, ◌∙◌, inl, inr, arith, ltb→lt}
 use Rattle.std.proofs.lemmas.Bool.{eqb-true, eq-eqb, le-ltb, ne_eqb, cases_lt, cases_eq}
 use Rattle.board.specs.declared.heading.Heading.{Heading}
 use Rattle.board.specs.declared.heading.Heading.TheVariants.{North, East, South, West}
@@ -9,7 +9,7 @@ use Rattle.board.specs.Headings.{opposite}
 use Rattle.board.specs.Places.{placed_by, placed, celled_by, celled, megacell_of}
 use Rattle.board.specs.Corners.{subcell}
 use Rattle.board.specs.Steps.{ahead, beside}
-use Rattle.board.proofs.Geometry.{megacell_path, placed_at, placed_some, celled_at, celled_some, Steps, next_back, next_inj, ahead_is, Shift, unshift}
+use Rattle.board.proofs.Geometry.{megacell_path, placed_at, placed_some, celled_at, Steps, next_back, next_inj, ahead_is, Shift, unshift}
 
 pub not_both : {A : Type 0} (o : Option A) (a : A) → o ≡ Some a → o ≡ None → ⊥
 not_both o a e f = let z : ◌≡◌ {A = ℕ} 0 1 = cc in omega arith

@@ -5,3 +5,4 @@ pub mod Steps
 pub mod Turning
 pub mod Floors
 pub mod Counting
+pub mod Sameness

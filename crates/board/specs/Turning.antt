@@ -1,5 +1,5 @@
 -- The numbers of headings, and how the exit goes along with a rover. Cross is a step by the exit, turn a step to its left.
-use Rattle.std.specs.Prelude.{◌≡◌, ℕ, ◌+◌, ◌%◌, Some}
+use Rattle.std.specs.Prelude.{◌≡◌, ◌+◌, ◌%◌, Some}
 use Rattle.board.specs.declared.heading.Heading.{Heading}
 use Rattle.board.specs.declared.megacell.Megacell.{Megacell}
 use Rattle.board.specs.declared.place.Place.{Place}

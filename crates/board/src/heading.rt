@@ -1,7 +1,6 @@
 ghost use Rattle.std.specs.Prelude.{◌≡◌};
 ghost use Rattle.board.specs.Headings.{left, right, opposite, heading_number, letter, same_heading};
-ghost use Rattle.std.specs.Cmp.Rules.{comparing};
-ghost use Rattle.std.proofs.Common.{rules};
+ghost use Rattle.board.specs.Sameness.{headings_alike};
 
 /// One of the four ways to go. North is towards row 0, west towards column 0.
 #[derive(Clone, Copy, Debug)]
@@ -76,9 +75,9 @@ impl Heading {
 
 /// Two headings are equal when they have the same number.
 impl PartialEq for Heading {
-    ghost eq = { λ a b. same_heading a b };
+    ghost eq = { same_heading };
 
-    ghost laws = { Prim.search (comparing, rules) };
+    ghost laws = { headings_alike };
 
     fn eq(&self, other: &Heading) -> bool {
         self.number() == other.number()

@@ -1,8 +1,7 @@
 ghost use Rattle.std.specs.Prelude.{◌≡◌, ◌<◌};
 ghost use Rattle.board.specs.Places.{celled, number_of, same_megacell};
 ghost use Rattle.board.specs.Steps.{beside};
-ghost use Rattle.std.specs.Cmp.Rules.{comparing};
-ghost use Rattle.std.proofs.Common.{rules, arith};
+ghost use Rattle.board.specs.Sameness.{megacells_alike};
 
 use super::Megacell;
 use crate::heading::Heading;
@@ -74,9 +73,9 @@ impl Megacell {
 
 /// Two megacells are equal when both numbers are.
 impl PartialEq for Megacell {
-    ghost eq = { λ a b. same_megacell a b };
+    ghost eq = { same_megacell };
 
-    ghost laws = { first_of (Prim.search (comparing, rules), Prim.grind (arith, Self.row.coded.inj)) };
+    ghost laws = { megacells_alike };
 
     fn eq(&self, other: &Megacell) -> bool {
         other.row == self.row && other.column == self.column

@@ -2,8 +2,7 @@ ghost use Rattle.std.specs.Prelude.{◌≡◌, ◌<◌};
 ghost use Rattle.board.specs.Corners.{corner_of, exit};
 ghost use Rattle.board.specs.Places.{placed, megacell_of, slot_of, same_place};
 ghost use Rattle.board.specs.Steps.{ahead};
-ghost use Rattle.std.specs.Cmp.Rules.{comparing};
-ghost use Rattle.std.proofs.Common.{rules, arith};
+ghost use Rattle.board.specs.Sameness.{places_alike};
 
 use super::Place;
 use crate::corner::Corner;
@@ -96,9 +95,9 @@ impl Place {
 
 /// Two places are equal when both numbers are.
 impl PartialEq for Place {
-    ghost eq = { λ a b. same_place a b };
+    ghost eq = { same_place };
 
-    ghost laws = { first_of (Prim.search (comparing, rules), Prim.grind (arith, Self.row.coded.inj)) };
+    ghost laws = { places_alike };
 
     fn eq(&self, other: &Place) -> bool {
         other.row == self.row && other.column == self.column
