@@ -4,8 +4,8 @@ use Rattle.fault.specs.declared.layer.Layer.TheVariants.{Chart}
 use Rattle.fault.specs.Refusals.{Refusal, refused}
 use Rattle.board.specs.declared.place.Place.{Place}
 use Rattle.board.specs.Places.{slot_of}
-use Rattle.chart.specs.declared.fault.ChartFault.{ChartFault}
-use Rattle.chart.specs.declared.fault.ChartFault.TheVariants.{Short}
+use Rattle.chart.specs.declared.faults.ChartFault.{ChartFault}
+use Rattle.chart.specs.declared.faults.ChartFault.TheVariants.{Short}
 use Rattle.chart.specs.declared.slot.Slot.{Slot}
 use Rattle.chart.specs.declared.slot.Slot.TheVariants.{Empty, Holds}
 

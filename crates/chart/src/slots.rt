@@ -4,7 +4,7 @@ ghost use Rattle.board.specs.Places.{slot_of};
 ghost use Rattle.chart.specs.declared.slot.Slot.TheVariants.{Holds};
 ghost use Rattle.chart.specs.Charts.{reading, slot_at, Blank, SameBeyond, TooFew};
 
-use crate::fault::ChartFault;
+use crate::faults::ChartFault;
 use crate::slot::Slot;
 use board::place::Place;
 

@@ -1,17 +1,17 @@
 //! Writes the text of every refusal, of every layer and of the readings of a drawn floor, a line each: what a person
 //! is told. Nothing is promised of these texts; the lines are compared with the file `stdout`.
 use board::heading::Heading;
-use chart::fault::ChartFault;
+use chart::faults::ChartFault;
 use drawn_floor::light::Light;
 use fault::Fault;
-use frame::fault::FrameFault;
-use log_record::fault::LogFault;
-use map_format::fault::MapFault;
-use rover::fault::RoverFault;
-use sheet::fault::SheetFault;
+use frame::faults::FrameFault;
+use log_record::faults::LogFault;
+use map_format::faults::MapFault;
+use rover::faults::RoverFault;
+use sheet::faults::SheetFault;
 use std::{fmt, io};
-use survey::fault::SurveyFault;
-use sweep::fault::SweepFault;
+use survey::faults::SurveyFault;
+use sweep::faults::SweepFault;
 
 /// One line: number, layer, place and text of a refusal.
 fn tell<F: Fault + fmt::Display>(rt: &HostRuntime, fault: &F) -> io::Result<()> {

@@ -7,8 +7,8 @@ use Rattle.board.specs.declared.place.Place.{Place}
 use Rattle.board.specs.Headings.{left, right}
 use Rattle.frame.specs.Frames.{mirrored, flipped, quarter, unquarter, times}
 use Rattle.frame.specs.Skipped.{passed}
-use Rattle.frame.specs.declared.fault.FrameFault.{FrameFault}
-use Rattle.frame.specs.declared.fault.FrameFault.TheVariants.{Unknown}
+use Rattle.frame.specs.declared.faults.FrameFault.{FrameFault}
+use Rattle.frame.specs.declared.faults.FrameFault.TheVariants.{Unknown}
 use Rattle.frame.specs.declared.mirror.Mirror.{Mirror}
 use Rattle.frame.specs.declared.pair.Pair.{Pair}
 use Rattle.frame.specs.declared.turn.Turn.{Turn}

@@ -6,7 +6,7 @@ ghost use Rattle.board.specs.declared.place.Place.{Place};
 ghost use Rattle.board.specs.Places.{megacell_of};
 ghost use Rattle.board.specs.Steps.{ahead};
 
-pub mod fault;
+pub mod faults;
 pub mod known;
 pub mod mirror;
 pub mod numbered;

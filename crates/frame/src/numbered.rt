@@ -1,7 +1,7 @@
 ghost use Rattle.std.specs.Prelude.{◌≡◌, ◌<◌, MatchResult};
 ghost use Rattle.frame.specs.Numbered.{frame_of, Refuses};
 
-use super::fault::FrameFault;
+use super::faults::FrameFault;
 use super::mirror::Mirror;
 use super::pair::Pair;
 use super::turn::Turn;

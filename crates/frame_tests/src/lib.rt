@@ -6,7 +6,7 @@ mod tests {
     use chart::slot::Slot;
     use chart::slots;
     use drawn_floor::light::Light;
-    use drawn_floor::rover::DrawnRover;
+    use drawn_floor::drawn_rover::DrawnRover;
     use fault::Fault;
     use frame::Frame;
     use frame::mirror::Mirror;
@@ -15,7 +15,7 @@ mod tests {
     use frame::turn::Turn;
     use framed::Framed;
     use map_format::drawing::Drawing;
-    use rover::fault::RoverFault;
+    use rover::faults::RoverFault;
     use rover::meaning::Rover;
     use std::test::Fail;
 

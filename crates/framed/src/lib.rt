@@ -5,7 +5,7 @@ ghost use Rattle.framed.specs.Seen.{seen_floor, seen_field};
 use board::heading::Heading;
 use board::place::Place;
 use frame::Frame;
-use rover::fault::RoverFault;
+use rover::faults::RoverFault;
 use rover::meaning::Rover;
 
 /// The rover below, and the frame through which it is seen.

@@ -5,17 +5,17 @@ use Rattle.std.proofs.lemmas.Bool.{cases_lt, lt-ltb, le-ltb}
 use Rattle.board.specs.declared.place.Place.{Place}
 use Rattle.board.specs.Floors.{Floor}
 use Rattle.drawn_floor.specs.declared.light.Light.{Light}
-use Rattle.frame.specs.declared.fault.FrameFault.{FrameFault}
-use Rattle.frame.specs.declared.fault.FrameFault.TheVariants.{Unknown}
+use Rattle.frame.specs.declared.faults.FrameFault.{FrameFault}
+use Rattle.frame.specs.declared.faults.FrameFault.TheVariants.{Unknown}
 use Rattle.frame.specs.Numbered.{frame_of, place_seen, Refuses}
 use Rattle.map_format.specs.declared.drawing.Drawing.{Drawing}
-use Rattle.map_format.specs.declared.fault.MapFault.{MapFault}
+use Rattle.map_format.specs.declared.faults.MapFault.{MapFault}
 use Rattle.map_format.specs.Answer.{answer}
-use Rattle.log_record.specs.declared.fault.LogFault.{LogFault}
+use Rattle.log_record.specs.declared.faults.LogFault.{LogFault}
 use Rattle.log_record.specs.Layout.{start_of}
 use Rattle.log_format.specs.Log.{refusal}
-use Rattle.survey.specs.declared.fault.SurveyFault.{SurveyFault}
-use Rattle.survey.specs.declared.fault.SurveyFault.TheVariants.{Frame, Map, Log, Chart, Rover, Sweep, Sheet as Short}
+use Rattle.survey.specs.declared.faults.SurveyFault.{SurveyFault}
+use Rattle.survey.specs.declared.faults.SurveyFault.TheVariants.{Frame, Map, Log, Chart, Rover, Sweep, Sheet as Short}
 use Rattle.survey.specs.Course.{moves_in, sheet_after}
 use Rattle.survey.specs.Logs.{LogAnswered, floor_seen, field_seen}
 use Rattle.survey.specs.Maps.{MapAnswered, map_floor, map_field, map_start}

@@ -11,7 +11,7 @@ use Rattle.board.specs.Headings.{left, opposite, letter}
 use Rattle.board.specs.Places.{placed, celled, same_place, same_megacell, megacell_of}
 use Rattle.board.specs.Steps.{ahead, beside, step}
 use Rattle.board.proofs.Geometry.{placed_at}
-use Rattle.frame.specs.declared.fault.FrameFault.TheVariants.{Unknown}
+use Rattle.frame.specs.declared.faults.FrameFault.TheVariants.{Unknown}
 use Rattle.frame.specs.Frames.{mirrored, flipped, quarter, unquarter, times}
 use Rattle.framed.specs.Seen.{megacell_below}
 use Rattle.map_format.specs.declared.drawing.Drawing.{Drawing}
@@ -25,7 +25,7 @@ use Rattle.tour.specs.History.{here, old, parent, home, walk, entered}
 use Rattle.tour.specs.Rules.{is_parent, absent_or_old, ruled, next_move}
 use Rattle.tour.specs.Tour.{tour, letters, tour_looks, home_after}
 use Rattle.sheet.specs.Sheets.{lined}
-use Rattle.survey.specs.declared.fault.SurveyFault.TheVariants.{Frame}
+use Rattle.survey.specs.declared.faults.SurveyFault.TheVariants.{Frame}
 use Rattle.survey.specs.Course.{or_else, moves_in, old_count, sheet_after}
 use Rattle.survey.specs.Maps.{map_floor, map_start}
 use Rattle.known_floors.specs.Outcomes.{Outcome, Sheet, driven, in_frame, refused_by, drawn as outcome_of}

@@ -2,7 +2,7 @@
 -- outcome that the rules make of its bytes.
 use Rattle.std.specs.Prelude.{◌≡◌, ℕ, ◌≤◌, List, length, take, Ok, Err, Result}
 use Rattle.drawn_floor.specs.declared.light.Light.{Light}
-use Rattle.survey.specs.declared.fault.SurveyFault.{SurveyFault}
+use Rattle.survey.specs.declared.faults.SurveyFault.{SurveyFault}
 use Rattle.survey.specs.Surveys.{Lent}
 use Rattle.survey.specs.Maps.{SurveysMap}
 use Rattle.survey.specs.Logs.{SurveysLog}

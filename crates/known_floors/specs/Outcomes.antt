@@ -2,17 +2,17 @@
 use Rattle.std.specs.Prelude.{ℕ, cond, List, [], Some, None, Ok, Err, Option, Result, nat_lt}
 use Rattle.board.specs.declared.place.Place.{Place}
 use Rattle.board.specs.Floors.{Floor}
-use Rattle.frame.specs.declared.fault.FrameFault.TheVariants.{Unknown}
+use Rattle.frame.specs.declared.faults.FrameFault.TheVariants.{Unknown}
 use Rattle.frame.specs.Numbered.{frame_of, place_seen}
 use Rattle.map_format.specs.declared.drawing.Drawing.{Drawing}
-use Rattle.map_format.specs.declared.fault.MapFault.{MapFault}
+use Rattle.map_format.specs.declared.faults.MapFault.{MapFault}
 use Rattle.map_format.specs.Answer.{answer}
-use Rattle.log_record.specs.declared.fault.LogFault.{LogFault}
-use Rattle.log_record.specs.declared.fault.LogFault.TheVariants.{BadHeader}
+use Rattle.log_record.specs.declared.faults.LogFault.{LogFault}
+use Rattle.log_record.specs.declared.faults.LogFault.TheVariants.{BadHeader}
 use Rattle.log_record.specs.Layout.{start_of}
 use Rattle.log_format.specs.Log.{refusal}
-use Rattle.survey.specs.declared.fault.SurveyFault.{SurveyFault}
-use Rattle.survey.specs.declared.fault.SurveyFault.TheVariants.{Frame, Map, Log}
+use Rattle.survey.specs.declared.faults.SurveyFault.{SurveyFault}
+use Rattle.survey.specs.declared.faults.SurveyFault.TheVariants.{Frame, Map, Log}
 use Rattle.survey.specs.Course.{moves_in, sheet_after}
 use Rattle.survey.specs.Faults.{told}
 use Rattle.survey.specs.Maps.{map_floor, map_start}

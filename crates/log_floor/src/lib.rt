@@ -1,4 +1,4 @@
 //! The floor that a log tells of, and a rover on it. The log stays lent.
 mod floor;
-pub mod rover;
+pub mod log_rover;
 pub mod theorems;

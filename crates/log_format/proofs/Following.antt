@@ -6,7 +6,7 @@ use Rattle.board.specs.Places.{megacell_of, same_megacell}
 use Rattle.board.proofs.Geometry.{same_megacell_refl}
 use Rattle.firsts.specs.First.{first}
 use Rattle.firsts.proofs.Firsts.{first_zero, first_more, first_here, first_some, first_none, first_none_at}
-use Rattle.log_record.specs.declared.fault.LogFault.{LogFault}
+use Rattle.log_record.specs.declared.faults.LogFault.{LogFault}
 use Rattle.log_record.specs.declared.header.Header.{Header}
 use Rattle.log_record.specs.declared.record.Record.{Record}
 use Rattle.log_record.specs.Layout.{two, header_of, record_at}

@@ -6,7 +6,7 @@ use Rattle.board.specs.Places.{megacell_of, number_of, same_megacell}
 use Rattle.board.proofs.Geometry.{same_megacell_true, same_megacell_refl}
 use Rattle.firsts.specs.First.{first}
 use Rattle.firsts.proofs.Firsts.{first_here, first_some, first_none, first_none_at}
-use Rattle.log_record.specs.declared.fault.LogFault.TheVariants.{StartUntold}
+use Rattle.log_record.specs.declared.faults.LogFault.TheVariants.{StartUntold}
 use Rattle.log_record.specs.declared.header.Header.{Header}
 use Rattle.log_record.specs.declared.record.Record.{Record}
 use Rattle.log_record.specs.Layout.{header_of, record_at}

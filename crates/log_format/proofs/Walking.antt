@@ -8,8 +8,8 @@ use Rattle.board.specs.Places.{megacell_of, number_of, same_megacell}
 use Rattle.board.proofs.Geometry.{same_megacell_true, same_megacell_refl}
 use Rattle.firsts.specs.First.{first, or_else}
 use Rattle.firsts.proofs.Firsts.{first_zero, first_more, first_here}
-use Rattle.log_record.specs.declared.fault.LogFault.{LogFault}
-use Rattle.log_record.specs.declared.fault.LogFault.TheVariants.{SecondRecord, StartUntold}
+use Rattle.log_record.specs.declared.faults.LogFault.{LogFault}
+use Rattle.log_record.specs.declared.faults.LogFault.TheVariants.{SecondRecord, StartUntold}
 use Rattle.log_record.specs.declared.header.Header.{Header}
 use Rattle.log_record.specs.declared.record.Record.{Record}
 use Rattle.log_record.specs.Layout.{two, header_of, record_at}

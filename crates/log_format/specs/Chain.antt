@@ -3,8 +3,8 @@ use Rattle.std.specs.Prelude.{◌≡◌, ℕ, zero, suc, Bool, true, false, cond
 use Rattle.board.specs.declared.megacell.Megacell.{Megacell}
 use Rattle.board.specs.Places.{same_megacell}
 use Rattle.firsts.specs.First.{first}
-use Rattle.log_record.specs.declared.fault.LogFault.{LogFault}
-use Rattle.log_record.specs.declared.fault.LogFault.TheVariants.{IndexBeyond, BadRecord, SecondRecord}
+use Rattle.log_record.specs.declared.faults.LogFault.{LogFault}
+use Rattle.log_record.specs.declared.faults.LogFault.TheVariants.{IndexBeyond, BadRecord, SecondRecord}
 use Rattle.log_record.specs.declared.header.Header.{Header}
 use Rattle.log_record.specs.declared.record.Record.{Record}
 use Rattle.log_record.specs.Layout.{two, header_of, record_at}

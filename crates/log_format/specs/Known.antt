@@ -2,7 +2,7 @@
 use Rattle.std.specs.Prelude.{◌≡◌, ℕ, List, [], ◌∷◌, Some, None, Option}
 use Rattle.fault.specs.declared.layer.Layer.TheVariants.{Log}
 use Rattle.fault.specs.Refusals.{Refusal, refused}
-use Rattle.log_record.specs.declared.fault.LogFault.{LogFault}
+use Rattle.log_record.specs.declared.faults.LogFault.{LogFault}
 use Rattle.log_record.specs.Faults.{told}
 use Rattle.log_format.specs.Log.{refusal}
 

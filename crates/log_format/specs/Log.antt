@@ -3,8 +3,8 @@ use Rattle.std.specs.Prelude.{◌≡◌, ℕ, ◌≤◌, Bool, true, false, cond
 use Rattle.board.specs.declared.megacell.Megacell.{Megacell}
 use Rattle.board.specs.Places.{megacell_of}
 use Rattle.firsts.specs.First.{first}
-use Rattle.log_record.specs.declared.fault.LogFault.{LogFault}
-use Rattle.log_record.specs.declared.fault.LogFault.TheVariants.{SecondRecord, StartUntold}
+use Rattle.log_record.specs.declared.faults.LogFault.{LogFault}
+use Rattle.log_record.specs.declared.faults.LogFault.TheVariants.{SecondRecord, StartUntold}
 use Rattle.log_record.specs.declared.header.Header.{Header}
 use Rattle.log_record.specs.declared.record.Record.{Record}
 use Rattle.log_record.specs.Layout.{header_of, record_at}

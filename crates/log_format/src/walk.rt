@@ -1,13 +1,13 @@
 ghost use Rattle.std.specs.Prelude.{◌≡◌, true, false, Some, None, Ok, MatchResult, slice_index_or, slice_set};
 ghost use Rattle.board.specs.Places.{megacell_of, number_of};
-ghost use Rattle.log_record.specs.declared.fault.LogFault.TheVariants.{SecondRecord};
+ghost use Rattle.log_record.specs.declared.faults.LogFault.TheVariants.{SecondRecord};
 ghost use Rattle.log_record.specs.Layout.{header_of};
 ghost use Rattle.log_format.specs.Chain.{led, stops, stop};
 ghost use Rattle.log_format.specs.Log.{refusal};
 
 use board::megacell::Megacell;
 use board::place::Place;
-use log_record::fault::LogFault;
+use log_record::faults::LogFault;
 use log_record::header::Header;
 use log_record::record::{Record, record_at};
 

@@ -1,8 +1,8 @@
 -- What each refusal of a log tells: its number, and its place, which is a record, 0 standing for the header or for none.
 use Rattle.fault.specs.declared.layer.Layer.TheVariants.{Log}
 use Rattle.fault.specs.Refusals.{Refusal, refused}
-use Rattle.log_record.specs.declared.fault.LogFault.{LogFault}
-use Rattle.log_record.specs.declared.fault.LogFault.TheVariants.{WrongLength, BadHeader, IndexBeyond, BadRecord, SecondRecord, StartUntold}
+use Rattle.log_record.specs.declared.faults.LogFault.{LogFault}
+use Rattle.log_record.specs.declared.faults.LogFault.TheVariants.{WrongLength, BadHeader, IndexBeyond, BadRecord, SecondRecord, StartUntold}
 
 abbrev pub told : LogFault → Refusal
 told WrongLength = refused 7 Log 0

@@ -3,8 +3,8 @@ use Rattle.std.specs.Prelude.{ℕ, zero, suc, ◌+◌, ◌*◌, Bool, true, fals
 use Rattle.board.specs.declared.megacell.Megacell.{Megacell}
 use Rattle.board.specs.declared.place.Place.{Place}
 use Rattle.board.specs.Places.{placed, celled}
-use Rattle.log_record.specs.declared.fault.LogFault.{LogFault}
-use Rattle.log_record.specs.declared.fault.LogFault.TheVariants.{WrongLength, BadHeader}
+use Rattle.log_record.specs.declared.faults.LogFault.{LogFault}
+use Rattle.log_record.specs.declared.faults.LogFault.TheVariants.{WrongLength, BadHeader}
 use Rattle.log_record.specs.declared.header.Header.{Header}
 use Rattle.log_record.specs.declared.record.Record.{Record}
 

@@ -1,7 +1,7 @@
 ghost use Rattle.std.specs.Prelude.{◌≡◌};
 ghost use Rattle.log_record.specs.Layout.{header_of};
 
-use crate::fault::LogFault;
+use crate::faults::LogFault;
 use board::place::Place;
 
 /// What the first 8 bytes of a log hold.

@@ -22,7 +22,7 @@ mod tests {
     use board::corner::Corner;
     use board::heading::Heading;
     use board::megacell::Megacell;
-    use log_floor::rover::LogRover;
+    use log_floor::log_rover::LogRover;
     use log_format::records::Records;
     use rover::meaning::Rover;
     use std::test::Fail;

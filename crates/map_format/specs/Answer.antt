@@ -2,8 +2,8 @@
 use Rattle.std.specs.Prelude.{ℕ, ◌+◌, ◌/◌, ◌%◌, cond, ◌&&◌, List, length, Some, None, Ok, Err, Option, Result, nat_le, nat_lt}
 use Rattle.firsts.specs.First.{first}
 use Rattle.map_format.specs.declared.drawing.Drawing.{Drawing}
-use Rattle.map_format.specs.declared.fault.MapFault.{MapFault}
-use Rattle.map_format.specs.declared.fault.MapFault.TheVariants.{Length, ForbiddenByte, BadRow, ExtraRow, NoStart, SecondStart}
+use Rattle.map_format.specs.declared.faults.MapFault.{MapFault}
+use Rattle.map_format.specs.declared.faults.MapFault.TheVariants.{Length, ForbiddenByte, BadRow, ExtraRow, NoStart, SecondStart}
 use Rattle.map_format.specs.Bytes.{forbidden, first_from}
 use Rattle.map_format.specs.Rows.{or_at, width, row_at, bad_row}
 use Rattle.map_format.specs.Cells.{cells_of, megacell_at}

@@ -1,8 +1,8 @@
 -- What a refused map tells: the number of the refusal, and its place.
 use Rattle.fault.specs.declared.layer.Layer.TheVariants.{Map}
 use Rattle.fault.specs.Refusals.{Refusal, refused}
-use Rattle.map_format.specs.declared.fault.MapFault.{MapFault}
-use Rattle.map_format.specs.declared.fault.MapFault.TheVariants.{Length, ForbiddenByte, BadRow, ExtraRow, NoStart, SecondStart}
+use Rattle.map_format.specs.declared.faults.MapFault.{MapFault}
+use Rattle.map_format.specs.declared.faults.MapFault.TheVariants.{Length, ForbiddenByte, BadRow, ExtraRow, NoStart, SecondStart}
 
 abbrev pub told : MapFault → Refusal
 told (Length bytes) = refused 2 Map 0

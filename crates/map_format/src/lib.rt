@@ -5,6 +5,6 @@ pub mod cell;
 mod cells;
 pub mod digit;
 pub mod drawing;
-pub mod fault;
+pub mod faults;
 mod rows;
 pub mod theorems;

@@ -29,7 +29,7 @@ mod tests {
     use super::*;
     use board::heading::Heading;
     use drawn_floor::light::Light;
-    use drawn_floor::rover::DrawnRover;
+    use drawn_floor::drawn_rover::DrawnRover;
     use rover::meaning::Rover;
     use std::test::Fail;
 

@@ -4,7 +4,7 @@
 use board::heading::Heading;
 use chart::slot::Slot;
 use chart::slots;
-use drawn_floor::rover::DrawnRover;
+use drawn_floor::drawn_rover::DrawnRover;
 use fault::Fault;
 use map_format::drawing::Drawing;
 use rover::meaning::Rover;

@@ -5,8 +5,8 @@ use Rattle.fault.specs.Refusals.{Refusal, refused}
 use Rattle.board.specs.declared.heading.Heading.{Heading}
 use Rattle.board.specs.declared.place.Place.{Place}
 use Rattle.board.specs.Floors.{Floor, Passes}
-use Rattle.rover.specs.declared.fault.RoverFault.{RoverFault}
-use Rattle.rover.specs.declared.fault.RoverFault.TheVariants.{Closed}
+use Rattle.rover.specs.declared.faults.RoverFault.{RoverFault}
+use Rattle.rover.specs.declared.faults.RoverFault.TheVariants.{Closed}
 
 -- one more, up to the largest number of 32 bits, where a count stays
 abbrev pub counted : ℕ → ℕ

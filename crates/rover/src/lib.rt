@@ -1,3 +1,3 @@
 //! What a meter rover is: all that the code above it may know.
-pub mod fault;
+pub mod faults;
 pub mod meaning;

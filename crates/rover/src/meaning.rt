@@ -2,10 +2,10 @@ ghost use Rattle.std.specs.Prelude.{◌≡◌, ℕ, MatchResult};
 ghost use Rattle.board.specs.declared.place.Place.{Place};
 ghost use Rattle.board.specs.Floors.{Floor, SameFromBoth, ClosedAtEdge, Passes};
 ghost use Rattle.board.specs.Places.{megacell_of, slot_of};
-ghost use Rattle.rover.specs.declared.fault.RoverFault.TheVariants.{Closed};
+ghost use Rattle.rover.specs.declared.faults.RoverFault.TheVariants.{Closed};
 ghost use Rattle.rover.specs.Drive.{counted, Blocked};
 
-use crate::fault::RoverFault;
+use crate::faults::RoverFault;
 use board::heading::Heading;
 use board::place::Place;
 

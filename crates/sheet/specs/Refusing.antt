@@ -3,8 +3,8 @@ use Rattle.std.specs.Prelude.{◌≡◌, ℕ, Bool, cond, not, ◌||◌, List, l
 use Rattle.firsts.specs.First.{first}
 use Rattle.fault.specs.declared.layer.Layer.TheVariants.{Sheet}
 use Rattle.fault.specs.Refusals.{Refusal, refused}
-use Rattle.sheet.specs.declared.fault.SheetFault.{SheetFault}
-use Rattle.sheet.specs.declared.fault.SheetFault.TheVariants.{NoLetter, Short}
+use Rattle.sheet.specs.declared.faults.SheetFault.{SheetFault}
+use Rattle.sheet.specs.declared.faults.SheetFault.TheVariants.{NoLetter, Short}
 use Rattle.sheet.specs.Writing.{written}
 
 -- what a refusal of the sheet tells

@@ -3,7 +3,7 @@ ghost use Rattle.sheet.specs.Refusing.{sheet_fault, short_for, LaidOut};
 ghost use Rattle.sheet.specs.Sheets.{worded, start_line, letter_lines, last_line, sheet as sheet_of, refusal_line};
 ghost use Rattle.sheet.specs.Writing.{Room, Put};
 
-use crate::fault::SheetFault;
+use crate::faults::SheetFault;
 use crate::letters::{first_unlettered, letter_lines};
 use crate::lines::{last_line, start_line, worded_line};
 use crate::text::digits;

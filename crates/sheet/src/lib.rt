@@ -1,5 +1,5 @@
 //! The sheet that a sweep leaves, and the line that a refusal leaves, as text in a lent buffer.
-pub mod fault;
+pub mod faults;
 pub mod layout;
 mod letters;
 mod lines;

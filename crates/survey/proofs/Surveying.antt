@@ -12,8 +12,8 @@ use Rattle.board.specs.Headings.{letter}
 use Rattle.chart.specs.declared.slot.Slot.{Slot}
 use Rattle.chart.specs.Charts.{SameBeyond}
 use Rattle.tour.specs.Tour.{tour, letters}
-use Rattle.sheet.specs.declared.fault.SheetFault.{SheetFault}
-use Rattle.sheet.specs.declared.fault.SheetFault.TheVariants.{NoLetter, Short}
+use Rattle.sheet.specs.declared.faults.SheetFault.{SheetFault}
+use Rattle.sheet.specs.declared.faults.SheetFault.TheVariants.{NoLetter, Short}
 use Rattle.sheet.specs.Refusing.{is_letter, no_letter, letter_or, short_for, sheet_fault}
 use Rattle.sweep.specs.declared.sweep.Record.{Record}
 use Rattle.sheet.specs.Sheets.{sheet}

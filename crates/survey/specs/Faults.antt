@@ -7,8 +7,8 @@ use Rattle.chart.specs.Charts.{told as told_by_chart}
 use Rattle.rover.specs.Drive.{told as told_by_rover}
 use Rattle.sweep.specs.Faults.{told as told_by_sweep}
 use Rattle.sheet.specs.Refusing.{told as told_by_sheet}
-use Rattle.survey.specs.declared.fault.SurveyFault.{SurveyFault}
-use Rattle.survey.specs.declared.fault.SurveyFault.TheVariants.{Frame, Map, Log, Chart, Rover, Sweep, Sheet}
+use Rattle.survey.specs.declared.faults.SurveyFault.{SurveyFault}
+use Rattle.survey.specs.declared.faults.SurveyFault.TheVariants.{Frame, Map, Log, Chart, Rover, Sweep, Sheet}
 
 abbrev pub told : SurveyFault → Refusal
 told (Frame e) = told_by_frame e

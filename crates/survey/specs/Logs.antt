@@ -2,15 +2,15 @@
 use Rattle.std.specs.Prelude.{◌≡◌, ℕ, ◌<◌, ◌≤◌, List, Some, None, Ok, Err, Option, Result}
 use Rattle.board.specs.declared.place.Place.{Place}
 use Rattle.board.specs.Floors.{Floor}
-use Rattle.frame.specs.declared.fault.FrameFault.{FrameFault}
+use Rattle.frame.specs.declared.faults.FrameFault.{FrameFault}
 use Rattle.frame.specs.Numbered.{frame_of, place_seen, place_below, heading_below, Refuses}
 use Rattle.framed.specs.Seen.{seen_floor, seen_field}
-use Rattle.log_record.specs.declared.fault.LogFault.{LogFault}
+use Rattle.log_record.specs.declared.faults.LogFault.{LogFault}
 use Rattle.log_record.specs.Layout.{start_of}
 use Rattle.log_format.specs.Log.{refusal}
 use Rattle.log_floor.specs.Told.{floor_of_log, field_of_log}
-use Rattle.survey.specs.declared.fault.SurveyFault.{SurveyFault}
-use Rattle.survey.specs.declared.fault.SurveyFault.TheVariants.{Frame, Log}
+use Rattle.survey.specs.declared.faults.SurveyFault.{SurveyFault}
+use Rattle.survey.specs.declared.faults.SurveyFault.TheVariants.{Frame, Log}
 use Rattle.survey.specs.Surveys.{Lent, Surveys}
 
 -- a log's floor and field, seen through the frame of a number

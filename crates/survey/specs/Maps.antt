@@ -5,15 +5,15 @@ use Rattle.board.specs.declared.place.Place.{Place}
 use Rattle.board.specs.Corners.{subcell}
 use Rattle.board.specs.Floors.{Floor}
 use Rattle.frame.specs.Numbered.{frame_of, place_seen, place_below, heading_below, Refuses}
-use Rattle.frame.specs.declared.fault.FrameFault.{FrameFault}
+use Rattle.frame.specs.declared.faults.FrameFault.{FrameFault}
 use Rattle.framed.specs.Seen.{seen_floor, seen_field}
 use Rattle.map_format.specs.declared.drawing.Drawing.{Drawing}
-use Rattle.map_format.specs.declared.fault.MapFault.{MapFault}
+use Rattle.map_format.specs.declared.faults.MapFault.{MapFault}
 use Rattle.map_format.specs.Answer.{answer}
 use Rattle.drawn_floor.specs.declared.light.Light.{Light}
 use Rattle.drawn_floor.specs.Floor.{floor_of, field_of}
-use Rattle.survey.specs.declared.fault.SurveyFault.{SurveyFault}
-use Rattle.survey.specs.declared.fault.SurveyFault.TheVariants.{Frame, Map}
+use Rattle.survey.specs.declared.faults.SurveyFault.{SurveyFault}
+use Rattle.survey.specs.declared.faults.SurveyFault.TheVariants.{Frame, Map}
 use Rattle.survey.specs.Surveys.{Lent, Surveys}
 
 -- a drawing's floor, field and start, seen through the frame of a number

@@ -11,10 +11,10 @@ use Rattle.chart.specs.Charts.{slot_at, SameBeyond, TooFew}
 use Rattle.tour.specs.Ground.{Ground}
 use Rattle.tour.specs.Tour.{tour, letters, home_after}
 use Rattle.sweep.specs.Promise.{OnChart}
-use Rattle.sheet.specs.declared.fault.SheetFault.TheVariants.{Short}
+use Rattle.sheet.specs.declared.faults.SheetFault.TheVariants.{Short}
 use Rattle.sheet.specs.Writing.{written}
-use Rattle.survey.specs.declared.fault.SurveyFault.{SurveyFault}
-use Rattle.survey.specs.declared.fault.SurveyFault.TheVariants.{Frame, Map, Log, Chart, Rover, Sweep, Sheet}
+use Rattle.survey.specs.declared.faults.SurveyFault.{SurveyFault}
+use Rattle.survey.specs.declared.faults.SurveyFault.TheVariants.{Frame, Map, Log, Chart, Rover, Sweep, Sheet}
 use Rattle.survey.specs.Course.{moves_in, sheet_after}
 use Rattle.survey.specs.Faults.{told}
 

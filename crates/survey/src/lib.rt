@@ -1,6 +1,6 @@
 //! The survey of a floor: one run over an emptied chart, and the sheet of it.
 mod drive;
-pub mod fault;
+pub mod faults;
 pub mod log;
 pub mod map;
-pub mod rover;
+pub mod any_rover;

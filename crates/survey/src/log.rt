@@ -2,12 +2,12 @@ ghost use Rattle.std.specs.Prelude.{◌≡◌};
 ghost use Rattle.survey.specs.Logs.{SurveysLog};
 ghost use Rattle.survey.specs.Surveys.{lent};
 
-use crate::fault::SurveyFault;
-use crate::rover::survey_rover;
+use crate::faults::SurveyFault;
+use crate::any_rover::survey_rover;
 use chart::slot::Slot;
 use frame::numbered::numbered;
 use framed::Framed;
-use log_floor::rover::LogRover;
+use log_floor::log_rover::LogRover;
 use log_format::log::Log;
 use rover::meaning::Rover;
 

@@ -2,7 +2,7 @@
 use Rattle.std.specs.Prelude.{◌≡◌, ℕ, ◌<◌, ◌≤◌, List, length, Ok, Err, Result}
 use Rattle.sheet.specs.Sheets.{refusal_line}
 use Rattle.sheet.specs.Writing.{written}
-use Rattle.survey.specs.declared.fault.SurveyFault.{SurveyFault}
+use Rattle.survey.specs.declared.faults.SurveyFault.{SurveyFault}
 use Rattle.survey.specs.Faults.{told}
 
 abbrev pub line_of : SurveyFault → List ℕ

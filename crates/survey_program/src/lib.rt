@@ -7,7 +7,7 @@ use chart::slot::Slot;
 use sheet::layout::lay_out_refusal;
 use std::alloc::{AllocError, Global};
 use std::io::Write;
-use survey::fault::SurveyFault;
+use survey::faults::SurveyFault;
 
 /// The bytes of a tour: the longest has four moves for each of the 1,024 megacells.
 pub const TOUR: usize = 4096;

@@ -9,7 +9,7 @@ mod tests {
     use std::alloc::Global;
     use std::process::Abort;
     use std::test::Fail;
-    use survey::fault::SurveyFault;
+    use survey::faults::SurveyFault;
     use survey::log::survey_log;
     use survey::map::survey_map;
     use sweep::sweep::Record;

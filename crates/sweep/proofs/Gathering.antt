@@ -13,8 +13,8 @@ use Rattle.rover.specs.declared.meaning.Rover.{Ghosts}
 use Rattle.chart.specs.declared.slot.Slot.{Slot}
 use Rattle.chart.specs.Charts.{Blank, SameBeyond}
 use Rattle.sweep.specs.declared.sweep.Sweep.{Sweep}
-use Rattle.sweep.specs.declared.fault.SweepFault.{SweepFault}
-use Rattle.sweep.specs.declared.fault.SweepFault.TheVariants.{Chart, Home, Rover}
+use Rattle.sweep.specs.declared.faults.SweepFault.{SweepFault}
+use Rattle.sweep.specs.declared.faults.SweepFault.TheVariants.{Chart, Home, Rover}
 use Rattle.sweep.specs.Promise.{filled, Filled, NextMove, Letters, SameFrom}
 use Rattle.sweep.specs.Journey.{Journey, Charts, Wrote, Story}
 use Rattle.sweep.specs.Single.{Begun, Steps, Still, Runs, RunRefuses}

@@ -18,10 +18,10 @@ use Rattle.fault.specs.declared.layer.Layer.TheVariants.{Rover as RoverLayer}
 use Rattle.fault.specs.Refusals.{refused}
 use Rattle.chart.specs.declared.slot.Slot.TheVariants.{Empty, Holds}
 use Rattle.chart.specs.Charts.{SameBeyond}
-use Rattle.sweep.specs.declared.fault.SweepFault.{SweepFault}
-use Rattle.sweep.specs.declared.fault.SweepFault.TheVariants.{Chart, Home, Rover}
+use Rattle.sweep.specs.declared.faults.SweepFault.{SweepFault}
+use Rattle.sweep.specs.declared.faults.SweepFault.TheVariants.{Chart, Home, Rover}
 use Rattle.sweep.specs.Single.{Steps, Still, Barred, Refuses, Runs, RunRefuses}
-use Rattle.rover.specs.declared.fault.RoverFault.TheVariants.{Closed}
+use Rattle.rover.specs.declared.faults.RoverFault.TheVariants.{Closed}
 use Rattle.rover.specs.Drive.{counted}
 use Rattle.sweep.proofs.Telling.{counted_none, counted_more, counted_plain, journey_idles_at_home}
 

@@ -23,8 +23,8 @@ use Rattle.chart.specs.declared.slot.Slot.{Slot}
 use Rattle.chart.specs.declared.slot.Slot.TheVariants.{Empty, Holds}
 use Rattle.chart.specs.Charts.{slot_at, Blank}
 use Rattle.sweep.specs.declared.mark.Mark.{Mark}
-use Rattle.sweep.specs.declared.fault.SweepFault.{SweepFault}
-use Rattle.sweep.specs.declared.fault.SweepFault.TheVariants.{Home}
+use Rattle.sweep.specs.declared.faults.SweepFault.{SweepFault}
+use Rattle.sweep.specs.declared.faults.SweepFault.TheVariants.{Home}
 use Rattle.sweep.specs.declared.sweep.Moved.{Moved}
 use Rattle.sweep.specs.declared.sweep.Sweep.{Sweep}
 use Rattle.sweep.specs.Table.{choice, decided, found, is_found, marked}

@@ -3,7 +3,7 @@ use Rattle.std.specs.Prelude.{◌≡◌, ℕ, ◌<◌, ◌≤◌, Bool, true, fa
 use Rattle.fault.specs.declared.layer.Layer.TheVariants.{Sweep as SweepLayer, Rover as RoverLayer}
 use Rattle.fault.specs.Refusals.{refused}
 use Rattle.rover.specs.declared.meaning.Rover.{Ghosts}
-use Rattle.rover.specs.declared.fault.RoverFault.TheVariants.{Closed}
+use Rattle.rover.specs.declared.faults.RoverFault.TheVariants.{Closed}
 use Rattle.rover.specs.Drive.{counted, Blocked}
 use Rattle.board.specs.declared.heading.Heading.{Heading}
 use Rattle.board.specs.declared.megacell.Megacell.{Megacell}
@@ -17,8 +17,8 @@ use Rattle.chart.specs.declared.slot.Slot.TheVariants.{Holds}
 use Rattle.chart.specs.Charts.{SameBeyond, TooFew}
 use Rattle.sweep.specs.declared.mark.Mark.TheVariants.{Under}
 use Rattle.sweep.specs.declared.choice.Choice.{Choice}
-use Rattle.sweep.specs.declared.fault.SweepFault.{SweepFault}
-use Rattle.sweep.specs.declared.fault.SweepFault.TheVariants.{Chart, Home, Rover}
+use Rattle.sweep.specs.declared.faults.SweepFault.{SweepFault}
+use Rattle.sweep.specs.declared.faults.SweepFault.TheVariants.{Chart, Home, Rover}
 use Rattle.sweep.specs.declared.sweep.Sweep.{Sweep}
 use Rattle.sweep.specs.Promise.{SameFrom}
 use Rattle.sweep.specs.Journey.{counted_by}

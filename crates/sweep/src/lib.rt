@@ -2,6 +2,6 @@
 pub mod call;
 pub mod calls;
 mod choice;
-pub mod fault;
+pub mod faults;
 mod mark;
 pub mod sweep;

@@ -2,13 +2,13 @@
 #[cfg(test)]
 mod tests {
     use board::heading::Heading;
-    use drawn_floor::rover::DrawnRover;
+    use drawn_floor::drawn_rover::DrawnRover;
     use fault::Fault;
     use frame::Frame;
     use frame::mirror::Mirror;
     use frame::turn::Turn;
     use framed::Framed;
-    use log_floor::rover::LogRover;
+    use log_floor::log_rover::LogRover;
     use log_format::log::Log;
     use log_format::records::Records;
     use map_format::drawing::Drawing;

@@ -4,9 +4,9 @@ ghost use Rattle.std.specs.Prelude.{◌≡◌};
 
 use board::heading::Heading;
 use chart::slot::Slot;
-use rover::fault::RoverFault;
+use rover::faults::RoverFault;
 use rover::meaning::Rover;
-use sweep::fault::SweepFault;
+use sweep::faults::SweepFault;
 use sweep::sweep::{Moved, Sweep};
 
 /// One move by a sweep, and then, the sweep ended, one step by hand.

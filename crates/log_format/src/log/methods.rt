@@ -8,7 +8,7 @@ use crate::records::Records;
 use crate::walk::walk;
 use board::megacell::Megacell;
 use board::place::Place;
-use log_record::fault::LogFault;
+use log_record::faults::LogFault;
 use log_record::header::{Header, read_header};
 use log_record::record::{Record, record_at};
 

@@ -6,7 +6,7 @@ ghost use Rattle.map_format.specs.Layout.{LiesOn};
 use super::Drawing;
 use crate::bytes::{first_forbidden, first_from};
 use crate::cells::draw;
-use crate::fault::MapFault;
+use crate::faults::MapFault;
 use crate::rows::{first_bad_row, first_width, row_start};
 use board::megacell::Megacell;
 

@@ -1,19 +1,19 @@
 ghost use Rattle.std.specs.Prelude.{◌≡◌, ℕ, ◌+◌, ◌<◌, ◌≤◌, true, false, length, MatchResult};
 ghost use Rattle.board.specs.Places.{megacell_of};
 ghost use Rattle.chart.specs.Charts.{TooFew};
-ghost use Rattle.sweep.specs.declared.fault.SweepFault.TheVariants.{Home};
+ghost use Rattle.sweep.specs.declared.faults.SweepFault.TheVariants.{Home};
 ghost use Rattle.sweep.specs.Promise.{NextMove};
 ghost use Rattle.sweep.specs.Journey.{Journey, Charts};
 ghost use Rattle.sweep.specs.Single.{Refuses, Steps, Aside, Still, Barred, Looks, Finds, ByTable, decided_for};
 
 use super::{Moved, Sweep};
 use crate::choice::Choice;
-use crate::fault::SweepFault;
+use crate::faults::SweepFault;
 use crate::mark::Mark;
 use crate::mark::table::{choose, set_mark};
 use board::heading::Heading;
 use board::megacell::Megacell;
-use chart::fault::ChartFault;
+use chart::faults::ChartFault;
 use chart::slot::Slot;
 use chart::slots::put;
 use rover::meaning::Rover;

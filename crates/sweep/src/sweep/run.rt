@@ -5,7 +5,7 @@ ghost use Rattle.sweep.specs.Single.{Still, Runs, RunRefuses};
 
 use super::advance::need_chart;
 use super::{Ran, Sweep};
-use crate::fault::SweepFault;
+use crate::faults::SweepFault;
 use chart::slot::Slot;
 use rover::meaning::Rover;
 

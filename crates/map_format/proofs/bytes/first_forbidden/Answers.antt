@@ -9,4 +9,4 @@ pub returns-then-not-is-permitted : goal.returns-then-not-is-permitted
 returns-then-not-is-permitted c = sym (first_here _ c.loop-offset.offset _ c.loop-offset.invariant (ap not (sym c.if-not-is-permitted.ensures)) (omega arith))
 
 pub loop-offset-preserved : goal.loop-offset-preserved
-loop-offset-preserved c = first_more _ c.loop-offset.offset c.loop-offset.invariant (ap not (sym c.if-not-is-permitted.ensures))
+loop-offset-preserved c = first_more _ c.loop-offset.offset c.loop-offset.invariant (ap not (sym c.if-not-is_permitted.ensures))

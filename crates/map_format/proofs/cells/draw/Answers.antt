@@ -8,7 +8,7 @@ loop-i-preserved c = (
   simp length-set c.loop-i.invariant.0,
   below_more _ _
       (λ k h. let ne : k ≢ c.loop-i.i = omega arith in rw get_or-set_other (c.loop-i.invariant.1 k h))
-      (let lt : c.loop-i.i < length c.loop-i.cells = omega (arith, c.loop-i.invariant.0) in rw get_or-set_same c.cell-in.ensures),
+      (let lt : c.loop-i.i < length c.loop-i.cells = omega (arith, c.loop-i.invariant.0) in rw get_or-set_same c.cell_in.ensures),
 )
 
 pub returns : goal.returns

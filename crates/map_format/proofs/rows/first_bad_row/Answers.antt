@@ -9,4 +9,4 @@ pub returns-then-is-bad : goal.returns-then-is-bad
 returns-then-is-bad c = record { is = sym (first_here _ c.loop-row.row _ c.loop-row.invariant (sym c.if-is-bad.ensures) (omega arith)); within = search rules }
 
 pub loop-row-preserved : goal.loop-row-preserved
-loop-row-preserved c = first_more _ c.loop-row.row c.loop-row.invariant (sym c.if-is-bad.ensures)
+loop-row-preserved c = first_more _ c.loop-row.row c.loop-row.invariant (sym c.if-is_bad.ensures)

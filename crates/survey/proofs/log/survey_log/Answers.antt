@@ -4,7 +4,7 @@ use Rattle.frame.specs.declared.pair.Pair.{Pair}
 use Rattle.frame.specs.declared.turn.Turn.{Turn}
 use Rattle.frame.specs.Numbered.{frame_of, place_seen, place_below, heading_below}
 use Rattle.framed.specs.Seen.{seen_floor, seen_field}
-use Rattle.log_record.specs.declared.fault.LogFault.{LogFault}
+use Rattle.log_record.specs.declared.faults.LogFault.{LogFault}
 use Rattle.log_record.specs.Layout.{start_of}
 use Rattle.log_format.specs.declared.log.Log.{Log}
 use Rattle.log_floor.specs.Told.{floor_of_log, field_of_log}

@@ -5,8 +5,8 @@ use Rattle.frame.specs.declared.turn.Turn.{Turn}
 use Rattle.frame.specs.Numbered.{frame_of, place_seen, place_below, heading_below}
 use Rattle.framed.specs.Seen.{seen_floor, seen_field}
 use Rattle.map_format.specs.declared.drawing.Drawing.{Drawing}
-use Rattle.map_format.specs.declared.fault.MapFault.{MapFault}
-use Rattle.drawn_floor.specs.declared.rover.DrawnRover.{DrawnRover}
+use Rattle.map_format.specs.declared.faults.MapFault.{MapFault}
+use Rattle.drawn_floor.specs.declared.drawn_rover.DrawnRover.{DrawnRover}
 use Rattle.drawn_floor.specs.Floor.{floor_of, field_of}
 use Rattle.survey.specs.Maps.{MapAnswered}
 use Rattle.survey.specs.Surveys.{lent, Surveys}

@@ -12,5 +12,5 @@ loop-i-preserved c = c.right-turned.ensures ∙ ap right c.loop-i.invariant ∙ 
 
 pub returns : goal.returns
 returns c =
-    let all : c.loop-i.-i ≡ c.args.self.now.quarters % 4 = omega arith in
+    let all : c.loop-i._i ≡ c.args.self.now.quarters % 4 = omega arith in
     c.loop-i.invariant ∙ ap (λ (n : ℕ). times n right c.args.heading) all

@@ -12,5 +12,5 @@ loop-i-preserved c = c.left-restored.ensures ∙ ap left c.loop-i.invariant ∙ 
 
 pub returns : goal.returns
 returns c =
-    let all : c.loop-i.-i ≡ c.args.self.now.quarters % 4 = omega arith in
+    let all : c.loop-i._i ≡ c.args.self.now.quarters % 4 = omega arith in
     c.loop-i.invariant ∙ ap (λ (n : ℕ). times n left c.args.heading) all

@@ -4,4 +4,4 @@ use Rattle.frame.specs.Frames.{times}
 use Rattle.frame.proofs.turn.TurnFrame.place.Given as goal
 
 abbrev pub invariant-loop-i : goal.invariant-loop-i
-invariant-loop-i l = l.taken ≡ times l.-i quarter l.initial.taken
+invariant-loop-i l = l.taken ≡ times l._i quarter l.initial.taken

@@ -3,14 +3,14 @@ use Rattle.map_format.proofs.Drawn.{Accepted, inside, lies_on}
 use Rattle.map_format.proofs.drawing.Drawing.read.Goals as goal
 use Rattle.map_format.proofs.drawing.Drawing.read.Goals.{After-draw, at·returns}
 
-accepted : (c : goal.After-draw) → Accepted c.args.map.now c.in-Some-first-from.start c.first-width-width.result
+accepted : (c : goal.After-draw) → Accepted c.args.map.now c.in-Some-first_from.start c.first_width-width.result
 accepted c =
     record {
-      is_width = c.first-width-width.ensures.is;
-      rows = sym c.in-default-first-bad-row.ensures.is;
+      is_width = c.first_width-width.ensures.is;
+      rows = sym c.in_default-first_bad_row.ensures.is;
       few = omega arith;
-      one = sym c.in-Some-first-from.ensures.is;
-      no_more = sym c.in-default-first-from-2.ensures.is;
+      one = sym c.in-Some-first_from.ensures.is;
+      no_more = sym c.in_default-first_from-2.ensures.is;
     }
 
 pub megacell-at-requires : goal.megacell-at-requires

@@ -1,6 +1,6 @@
 use Rattle.std.proofs.Common.{◌≡◌, ◌+◌, ◌≤◌, false, length, Err, refl, arith, rules}
 use Rattle.board.specs.Floors.{Lawful}
-use Rattle.sweep.specs.declared.fault.SweepFault.TheVariants.{Home}
+use Rattle.sweep.specs.declared.faults.SweepFault.TheVariants.{Home}
 use Rattle.sweep.proofs.Telling.{journey_idles_at_home, at_err, advance_is_done, advance_keeps_journey, advance_keeps_chart}
 use Rattle.sweep.proofs.Running.{unchanged_is_still}
 use Rattle.sweep.proofs.sweep.Sweep.advance.Goals as goal

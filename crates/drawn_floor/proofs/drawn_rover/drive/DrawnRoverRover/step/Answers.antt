@@ -1,7 +1,7 @@
 use Rattle.std.proofs.Common.{◌≡◌, sym, ◌∙◌, rules}
 use Rattle.drawn_floor.specs.Floor.{floor_of}
 use Rattle.rover.proofs.Passing.{pass, block}
-use Rattle.drawn_floor.proofs.rover.drive.DrawnRoverRover.step.Goals as goal
+use Rattle.drawn_floor.proofs.drawn_rover.drive.DrawnRoverRover.step.Goals as goal
 
 pub returns-then-is-passable : goal.returns-then-is-passable
 returns-then-is-passable c =

@@ -4,10 +4,10 @@ use Rattle.fault.specs.declared.layer.Layer.TheVariants.{Sheet as SheetLayer}
 use Rattle.fault.specs.Refusals.{refused}
 use Rattle.survey.specs.Course.{moves_in, sheet_after}
 use Rattle.survey.specs.Faults.{told}
-use Rattle.survey.specs.declared.fault.SurveyFault.TheVariants.{Sheet}
+use Rattle.survey.specs.declared.faults.SurveyFault.TheVariants.{Sheet}
 use Rattle.survey.specs.Surveys.{lent, Surveys}
 use Rattle.survey.proofs.Surveying.{letters_front, driven_since, sheet_refused, sheet_laid}
-use Rattle.survey.proofs.rover.survey_rover.Goals as goal
+use Rattle.survey.proofs.any_rover.survey_rover.Goals as goal
 
 pub returns-in-err-length : goal.returns-in-err-length
 returns-in-err-length g c =

@@ -1,7 +1,7 @@
 use Rattle.std.proofs.Common.{sym, ◌∙◌, rules}
 use Rattle.log_floor.specs.Told.{floor_of}
 use Rattle.rover.proofs.Passing.{pass, block}
-use Rattle.log_floor.proofs.rover.drive.LogRoverRover.step.Goals as goal
+use Rattle.log_floor.proofs.log_rover.drive.LogRoverRover.step.Goals as goal
 
 pub returns-then-is-passable : goal.returns-then-is-passable
 returns-then-is-passable g c =

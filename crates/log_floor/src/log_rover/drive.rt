@@ -7,7 +7,7 @@ use crate::floor::{count_at, is_open, is_passable};
 use board::heading::Heading;
 use board::place::Place;
 use log_format::records::Records;
-use rover::fault::RoverFault;
+use rover::faults::RoverFault;
 use rover::meaning::Rover;
 
 impl<L: Records> LogRover<L> {

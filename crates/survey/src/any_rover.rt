@@ -2,7 +2,7 @@ ghost use Rattle.std.specs.Prelude.{◌≡◌};
 ghost use Rattle.survey.specs.Surveys.{lent, Surveys};
 
 use crate::drive::drive;
-use crate::fault::SurveyFault;
+use crate::faults::SurveyFault;
 use chart::slot::Slot;
 use chart::slots;
 use rover::meaning::Rover;

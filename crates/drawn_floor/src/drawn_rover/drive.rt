@@ -9,7 +9,7 @@ use crate::light::Light;
 use board::heading::Heading;
 use board::place::Place;
 use map_format::drawing::Drawing;
-use rover::fault::RoverFault;
+use rover::faults::RoverFault;
 use rover::meaning::Rover;
 
 impl DrawnRover {

@@ -1,18 +1,18 @@
 ghost use Rattle.std.specs.Prelude.{◌≡◌};
-ghost use Rattle.survey.specs.declared.fault.SurveyFault.TheVariants.{Frame, Map, Log, Chart, Rover, Sweep, Sheet};
+ghost use Rattle.survey.specs.declared.faults.SurveyFault.TheVariants.{Frame, Map, Log, Chart, Rover, Sweep, Sheet};
 ghost use Rattle.survey.specs.Faults.{told};
 
-use chart::fault::ChartFault;
+use chart::faults::ChartFault;
 use fault::Fault;
 use fault::layer::Layer;
-use frame::fault::FrameFault;
-use log_record::fault::LogFault;
-use map_format::fault::MapFault;
-use rover::fault::RoverFault;
-use sheet::fault::SheetFault;
+use frame::faults::FrameFault;
+use log_record::faults::LogFault;
+use map_format::faults::MapFault;
+use rover::faults::RoverFault;
+use sheet::faults::SheetFault;
 use std::error::Error;
 use std::fmt;
-use sweep::fault::SweepFault;
+use sweep::faults::SweepFault;
 
 /// Why a survey is refused. The fault of the layer that refuses is whole inside.
 #[derive(Clone, Copy, Debug)]

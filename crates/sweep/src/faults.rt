@@ -1,11 +1,11 @@
 ghost use Rattle.std.specs.Prelude.{◌≡◌};
-ghost use Rattle.sweep.specs.declared.fault.SweepFault.TheVariants.{Chart, Rover};
+ghost use Rattle.sweep.specs.declared.faults.SweepFault.TheVariants.{Chart, Rover};
 ghost use Rattle.sweep.specs.Faults.{told};
 
-use chart::fault::ChartFault;
+use chart::faults::ChartFault;
 use fault::Fault;
 use fault::layer::Layer;
-use rover::fault::RoverFault;
+use rover::faults::RoverFault;
 use std::error::Error;
 use std::fmt;
 
