@@ -1,13 +1,13 @@
 use Rattle.std.proofs.Common.{ap, ◌∙◌, rules}
 use Rattle.board.specs.Places.{megacell_of}
-use Rattle.framed.proofs.Through.{kept, side_seen}
+use Rattle.framed.specs.Through.{kept, side_seen}
 use Rattle.framed.proofs.FramedRover.look.Goals as goal
 
 pub returns : goal.returns
 returns g c = record {
   answer =
       c.look.ensures.answer
-      ∙ ap (g.R.Rover.floor c.args.self.now.below (megacell_of (g.R.Rover.place c.args.self.now.below))) c.heading-below-below.ensures
+      ∙ ap (g.R.Rover.floor c.args.self.now.below (megacell_of (g.R.Rover.place c.args.self.now.below))) c.heading_below-below.ensures
       ∙ side_seen (g.F.Frame.taken c.args.self.now.frame) (g.F.Frame.returned c.args.self.now.frame) (g.F.Frame.turned c.args.self.now.frame) (g.F.Frame.restored c.args.self.now.frame)
       (let m = g.met.F.Frame in kept g.F.Frame m.undone m.redone m.undoes m.redoes m.together m.rejoined m.steps c.args.self.now.frame)
       (g.R.Rover.floor c.args.self.now.below) (g.R.Rover.place c.args.self.now.below) c.args.heading;

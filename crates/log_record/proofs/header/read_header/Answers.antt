@@ -2,9 +2,9 @@ use Rattle.std.proofs.Common.{rules}
 use Rattle.log_record.specs.Layout.{header_of}
 use Rattle.log_record.proofs.header.read_header.Goals as goal
 
-pub returns-in-default : goal.returns-in-default
+pub returns-in_default : goal.returns-in_default
 unfolding header_of
-returns-in-default c = search rules
+returns-in_default c = search rules
 
 pub returns-then-count-gt1024 : goal.returns-then-count-gt1024
 unfolding header_of

@@ -5,8 +5,8 @@ use Rattle.map_format.proofs.bytes.first_forbidden.Goals as goal
 pub loop-offset-init : goal.loop-offset-init
 loop-offset-init c = first_zero _
 
-pub returns-then-not-is-permitted : goal.returns-then-not-is-permitted
-returns-then-not-is-permitted c = sym (first_here _ c.loop-offset.offset _ c.loop-offset.invariant (ap not (sym c.if-not-is-permitted.ensures)) (omega arith))
+pub returns-then-not-is_permitted : goal.returns-then-not-is_permitted
+returns-then-not-is_permitted c = sym (first_here _ c.loop-offset.offset _ c.loop-offset.invariant (ap not (sym c.if-not-is_permitted.ensures)) (omega arith))
 
 pub loop-offset-preserved : goal.loop-offset-preserved
 loop-offset-preserved c = first_more _ c.loop-offset.offset c.loop-offset.invariant (ap not (sym c.if-not-is_permitted.ensures))

@@ -6,4 +6,4 @@ use Rattle.sheet.proofs.layout.sheet_length.Goals as goal
 pub returns : goal.returns
 returns c =
     let whole = length_around (start_line c.args.start) c.args.tour.now (last_line c.args.ending) in
-    omega (arith, whole, c.start-length.ensures.is, c.last-length.ensures.is)
+    omega (arith, whole, c.start_length.ensures.is, c.last_length.ensures.is)

@@ -7,11 +7,11 @@ use Rattle.sheet.proofs.layout.worded_length.Goals as goal
 few : (c : goal.After-digits) → length (decimal (get_or c.args.numbers.now c.loop-number.number-index 0)) ≤ 20
 few c = few_digits (get_or c.args.numbers.now c.loop-number.number-index 0) (omega (arith, c.type-inv.numbers c.loop-number.number-index))
 
-pub overflow-add-total : goal.overflow-add-total
-overflow-add-total c = omega (arith, few c, c.digits.ensures)
+pub overflow_add-total : goal.overflow_add-total
+overflow_add-total c = omega (arith, few c, c.digits.ensures)
 
-pub overflow-add-total-in-loop-number : goal.overflow-add-total-in-loop-number
-overflow-add-total-in-loop-number c = omega (arith, few c, c.digits.ensures, c.loop-number.invariant.1, c.requires.0, c.requires.1)
+pub overflow_add-total-in-loop-number : goal.overflow_add-total-in-loop-number
+overflow_add-total-in-loop-number c = omega (arith, few c, c.digits.ensures, c.loop-number.invariant.1, c.requires.0, c.requires.1)
 
 pub loop-number-preserved : goal.loop-number-preserved
 loop-number-preserved c =

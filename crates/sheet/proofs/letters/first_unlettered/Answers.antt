@@ -5,8 +5,8 @@ use Rattle.sheet.proofs.letters.first_unlettered.Goals as goal
 pub loop-i-init : goal.loop-i-init
 loop-i-init c = first_zero _
 
-pub returns-then-not-is-letter : goal.returns-then-not-is-letter
-returns-then-not-is-letter c = sym (first_here _ c.loop-i.i _ c.loop-i.invariant (ap not (sym c.if-not-is-letter.ensures)) (omega arith))
+pub returns-then-not-is_letter : goal.returns-then-not-is_letter
+returns-then-not-is_letter c = sym (first_here _ c.loop-i.i _ c.loop-i.invariant (ap not (sym c.if-not-is_letter.ensures)) (omega arith))
 
 pub loop-i-preserved : goal.loop-i-preserved
-loop-i-preserved c = first_more _ c.loop-i.i c.loop-i.invariant (ap not (sym c.if-not-is-letter.ensures))
+loop-i-preserved c = first_more _ c.loop-i.i c.loop-i.invariant (ap not (sym c.if-not-is_letter.ensures))

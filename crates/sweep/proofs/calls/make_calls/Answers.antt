@@ -17,7 +17,7 @@ loop-call-init g c =
 pub loop-call-preserved : goal.loop-call-preserved
 loop-call-preserved g c =
     let l = c.loop-call in
-    let m = c.make-call-written in
+    let m = c.make_call-written in
     subst (λ (k : ℕ). Makes g.R.Rover c.start-sweep.result c.args.slots.now c.args.tour.now 0 m.new.sweep m.new.slots m.new.tour m.result k)
     (sym (wants_more c.args.calls.now l.call-index Advance c.loop-call-test.true))
     (calls_make_on g.R.Rover c.start-sweep.result c.args.slots.now c.args.tour.now 0 l.sweep l.slots l.tour l.written _ l.invariant m.new.sweep m.new.slots m.new.tour m.result _ m.ensures)

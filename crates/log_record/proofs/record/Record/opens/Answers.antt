@@ -3,9 +3,9 @@ use Rattle.board.specs.Headings.{heading_number}
 use Rattle.log_record.specs.Tells.{opens}
 use Rattle.log_record.proofs.record.Record.opens.Goals as goal
 
-pub overflow-shr-result : goal.overflow-shr-result
+pub overflow_shr-result : goal.overflow_shr-result
 unfolding opens heading_number
-overflow-shr-result c = search rules
+overflow_shr-result c = search rules
 
 pub returns : goal.returns
 unfolding opens heading_number

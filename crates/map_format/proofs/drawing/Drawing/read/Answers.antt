@@ -1,7 +1,7 @@
 use Rattle.std.proofs.Common.{◌≡◌, sym, arith, rules}
 use Rattle.map_format.proofs.Drawn.{Accepted, inside, lies_on}
 use Rattle.map_format.proofs.drawing.Drawing.read.Goals as goal
-use Rattle.map_format.proofs.drawing.Drawing.read.Goals.{After-draw, at·returns}
+use Rattle.map_format.proofs.drawing.Drawing.read.Goals.{After-draw, at-returns}
 
 accepted : (c : goal.After-draw) → Accepted c.args.map.now c.in-Some-first_from.start c.first_width-width.result
 accepted c =
@@ -13,8 +13,8 @@ accepted c =
       no_more = sym c.in_default-first_from-2.ensures.is;
     }
 
-pub megacell-at-requires : goal.megacell-at-requires
-megacell-at-requires c = let k = inside _ _ _ (accepted c) in (omega arith, omega arith)
+pub megacell_at-requires : goal.megacell_at-requires
+megacell_at-requires c = let k = inside _ _ _ (accepted c) in (omega arith, omega arith)
 
 pub returns : goal.returns
-returns c = record { is = search rules; lies = lies_on _ _ _ _ (accepted (at·returns c).After-draw) c.draw.ensures c.megacell-at.ensures }
+returns c = record { is = search rules; lies = lies_on _ _ _ _ (accepted (at-returns c).After-draw) c.draw.ensures c.megacell_at.ensures }

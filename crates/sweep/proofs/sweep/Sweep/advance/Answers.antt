@@ -6,12 +6,12 @@ use Rattle.sweep.proofs.Running.{unchanged_is_still}
 use Rattle.sweep.proofs.sweep.Sweep.advance.Goals as goal
 
 -- home already: nothing changes
-pub returns-in-err-need-underway : goal.returns-in-err-need-underway
-returns-in-err-need-underway g c =
+pub returns-in_err-need_underway : goal.returns-in_err-need_underway
+returns-in_err-need_underway g c =
     let sweep = c.args.self.now in
-    let homed = c.in-err-need-underway.ensures.0 in
+    let homed = c.in_err-need_underway.ensures.0 in
     let room : 4096 ≤ length c.args.slots.now = search rules in
-    let r = c.from-residual-in-err-need-underway.result in
+    let r = c.from_residual-in_err-need_underway.result in
     let is : r ≡ Err Home = search rules in
     record {
       done = at_err _ _ r Home is ((room, homed, refl), unchanged_is_still g.R.Rover sweep c.args.slots.now);
@@ -30,8 +30,8 @@ returns g c =
     let far : c.args.self.now.home ≡ false = search rules in
     let room : 4096 ≤ length c.args.slots.now = search rules in
     record {
-      done = advance_is_done g.R.Rover laws c.args.self.now c.args.slots.now _ _ room far c.make-move.result c.make-move.ensures;
-      law = λ origin asked _ st. advance_keeps_journey g.R.Rover laws c.args.self.now c.args.slots.now _ _ room far c.make-move.result c.make-move.ensures origin asked st;
-      chart = advance_keeps_chart g.R.Rover laws c.args.self.now c.args.slots.now _ _ room far c.make-move.result c.make-move.ensures;
+      done = advance_is_done g.R.Rover laws c.args.self.now c.args.slots.now _ _ room far c.make_move.result c.make_move.ensures;
+      law = λ origin asked _ st. advance_keeps_journey g.R.Rover laws c.args.self.now c.args.slots.now _ _ room far c.make_move.result c.make_move.ensures origin asked st;
+      chart = advance_keeps_chart g.R.Rover laws c.args.self.now c.args.slots.now _ _ room far c.make_move.result c.make_move.ensures;
       short = λ origin asked few st. absurd (omega (arith, few, room));
     }

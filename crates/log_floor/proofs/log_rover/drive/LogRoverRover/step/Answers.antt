@@ -3,12 +3,12 @@ use Rattle.log_floor.specs.Told.{floor_of}
 use Rattle.rover.proofs.Passing.{pass, block}
 use Rattle.log_floor.proofs.log_rover.drive.LogRoverRover.step.Goals as goal
 
-pub returns-then-is-passable : goal.returns-then-is-passable
-returns-then-is-passable g c =
-    let k = pass (floor_of (g.L.Records.told c.args.self.now.log)) c.args.self.now.place c.in-Some.next c.args.heading (sym c.ahead.ensures ∙ c.in-Some.is) (sym c.is-passable.ensures ∙ c.if-is-passable.true) in
+pub returns-then-is_passable : goal.returns-then-is_passable
+returns-then-is_passable g c =
+    let k = pass (floor_of (g.L.Records.told c.args.self.now.log)) c.args.self.now.place c.in-Some.next c.args.heading (sym c.ahead.ensures ∙ c.in-Some.is) (sym c.is_passable.ensures ∙ c.if-is_passable.true) in
     search rules
 
-pub returns-else-is-passable : goal.returns-else-is-passable
-returns-else-is-passable g c =
-    let k = block (floor_of (g.L.Records.told c.args.self.now.log)) c.args.self.now.place c.in-Some.next c.args.heading (sym c.ahead.ensures ∙ c.in-Some.is) (sym c.is-passable.ensures ∙ c.if-is-passable.false) in
+pub returns-else-is_passable : goal.returns-else-is_passable
+returns-else-is_passable g c =
+    let k = block (floor_of (g.L.Records.told c.args.self.now.log)) c.args.self.now.place c.in-Some.next c.args.heading (sym c.ahead.ensures ∙ c.in-Some.is) (sym c.is_passable.ensures ∙ c.if-is_passable.false) in
     search rules
