@@ -5,7 +5,7 @@ use Rattle.sheet.proofs.layout.worded_length.Goals as goal
 
 -- the next number has at most 20 digits
 few : (c : goal.After-digits) → length (decimal (get_or c.args.numbers.now c.loop-number.number-index 0)) ≤ 20
-few c = few_digits (get_or c.args.numbers.now c.loop-number.number-index 0) (omega (arith, c.type-inv.numbers c.loop-number.number-index))
+few c = few_digits (get_or c.args.numbers.now c.loop-number.number-index 0) (omega (arith, c.type_inv.numbers c.loop-number.number-index))
 
 pub overflow_add-total : goal.overflow_add-total
 overflow_add-total c = omega (arith, few c, c.digits.ensures)

@@ -9,19 +9,19 @@ use Rattle.survey.specs.Surveys.{lent, Surveys}
 use Rattle.survey.proofs.Surveying.{letters_front, driven_since, sheet_refused, sheet_laid}
 use Rattle.survey.proofs.any_rover.survey_rover.Goals as goal
 
-pub returns-in-err-length : goal.returns-in-err-length
-returns-in-err-length g c =
+pub returns-in_err-length : goal.returns-in_err-length
+returns-in_err-length g c =
     let floor = g.R.Rover.floor c.args.rover in
     let s = g.R.Rover.place c.args.rover in
     let n = moves_in floor s (length c.args.tour.now) in
-    let emptied = c.in-ok-empty.ensures in
+    let emptied = c.in_ok-empty.ensures in
     let driven = driven_since floor (g.R.Rover.field c.args.rover) s n c.args.chart.now c.empty.new.slots c.drive-run.new.chart c.args.tour.now c.drive-run.new.tour emptied.1 c.drive-run.ensures.driven in
     let front = letters_front floor (g.R.Rover.field c.args.rover) s n c.drive-run.result.letters c.empty.new.slots c.drive-run.new.chart c.args.tour.now c.drive-run.new.tour c.drive-run.ensures.letters c.drive-run.ensures.driven in
-    let out = c.in-err-length.ensures in
-    let e = c.in-err-length.field-0.0 in
-    let why = sheet_refused floor s c.place-start.result n _ c.drive-run.result.ending c.args.sheet.now c.lay-out.new.sheet e c.place-start.ensures front c.drive-run.ensures.ending out.0 in
-    let p = err_from_is_err_and c.from-residual-in-err-length.result c.from-residual-in-err-length.ensures.1 in
-    subst (λ r. Surveys floor (g.R.Rover.field c.args.rover) s (lent c.args.chart.now c.args.tour.now c.args.sheet.now) (lent c.drive-run.new.chart c.drive-run.new.tour c.lay-out.new.sheet) r) (sym (p.1 ∙ ap Err p.2))
+    let out = c.in_err-length.ensures in
+    let e = c.in_err-length.field-0.0 in
+    let why = sheet_refused floor s c.place-start.result n _ c.drive-run.result.ending c.args.sheet.now c.lay_out.new.sheet e c.place-start.ensures front c.drive-run.ensures.ending out.0 in
+    let p = err_from_is_err_and c.from_residual-in_err-length.result c.from_residual-in_err-length.ensures.1 in
+    subst (λ r. Surveys floor (g.R.Rover.field c.args.rover) s (lent c.args.chart.now c.args.tour.now c.args.sheet.now) (lent c.drive-run.new.chart c.drive-run.new.tour c.lay_out.new.sheet) r) (sym (p.1 ∙ ap Err p.2))
     (omega (arith, emptied.0.room, c.empty.auto.slots), driven, why.0, why.1, ap (λ x. told (Sheet x)) why.1, out.1)
 
 pub returns : goal.returns
@@ -29,9 +29,9 @@ returns g c =
     let floor = g.R.Rover.floor c.args.rover in
     let s = g.R.Rover.place c.args.rover in
     let n = moves_in floor s (length c.args.tour.now) in
-    let emptied = c.in-ok-empty.ensures in
+    let emptied = c.in_ok-empty.ensures in
     let driven = driven_since floor (g.R.Rover.field c.args.rover) s n c.args.chart.now c.empty.new.slots c.drive-run.new.chart c.args.tour.now c.drive-run.new.tour emptied.1 c.drive-run.ensures.driven in
     let front = letters_front floor (g.R.Rover.field c.args.rover) s n c.drive-run.result.letters c.empty.new.slots c.drive-run.new.chart c.args.tour.now c.drive-run.new.tour c.drive-run.ensures.letters c.drive-run.ensures.driven in
-    let out = c.in-ok-length.ensures in
-    let laid = sheet_laid floor s c.place-start.result n _ c.drive-run.result.ending c.args.sheet.now c.lay-out.new.sheet _ c.place-start.ensures front c.drive-run.ensures.ending out.0 out.1 out.2 in
+    let out = c.in_ok-length.ensures in
+    let laid = sheet_laid floor s c.place-start.result n _ c.drive-run.result.ending c.args.sheet.now c.lay_out.new.sheet _ c.place-start.ensures front c.drive-run.ensures.ending out.0 out.1 out.2 in
     (omega (arith, emptied.0.room, c.empty.auto.slots), driven, laid.0, laid.1, laid.2)

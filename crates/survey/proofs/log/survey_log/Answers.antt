@@ -15,12 +15,12 @@ use Rattle.survey.proofs.log.survey_log.Goals as goal
 pub returns : goal.returns
 returns c =
     let before = lent c.args.chart.now c.args.tour.now c.args.sheet.now in
-    let after = lent c.survey-rover.new.chart c.survey-rover.new.tour c.survey-rover.new.sheet in
-    let r = c.survey-rover.result in
+    let after = lent c.survey_rover.new.chart c.survey_rover.new.tour c.survey_rover.new.sheet in
+    let r = c.survey_rover.result in
     let Seen : List ℕ → Pair (Option Mirror) Turn → Type 0 =
     λ b f. Surveys (seen_floor (place_below f) (heading_below f) (floor_of_log b)) (seen_field (place_below f) (field_of_log b)) (place_seen f c.new.result.place) before after r in
-    let framed = c.in-ok-seen.ensures in
-    let read = c.in-ok-read.ensures.is in
+    let framed = c.in_ok-seen.ensures in
+    let read = c.in_ok-read.ensures.is in
     let lent : c.log-log.result.bytes.now ≡ c.args.bytes.now = c.log-log.ensures ∙ read.0 in
     let held : c.new.result.log.bytes.now ≡ c.args.bytes.now = ap (λ (l : Log). l.bytes.now) c.new.ensures.log ∙ lent in
     record {
@@ -29,6 +29,6 @@ returns c =
           subst (λ (o : Option LogFault). LogAnswered c.args.frame c.args.bytes.now o before after r) (sym read.1) (
             c.new.result.place,
             ap start_of (sym lent) ∙ c.new.ensures.place,
-            subst (λ b. Seen b (frame_of c.args.frame)) held (subst (λ f. Seen c.new.result.log.bytes.now f) framed.1 c.survey-rover.ensures),
+            subst (λ b. Seen b (frame_of c.args.frame)) held (subst (λ f. Seen c.new.result.log.bytes.now f) framed.1 c.survey_rover.ensures),
           );
     }

@@ -15,14 +15,14 @@ use Rattle.survey.proofs.map.survey_map.Goals as goal
 pub returns : goal.returns
 returns c =
     let before = lent c.args.chart.now c.args.tour.now c.args.sheet.now in
-    let after = lent c.survey-rover.new.chart c.survey-rover.new.tour c.survey-rover.new.sheet in
-    let r = c.survey-rover.result in
+    let after = lent c.survey_rover.new.chart c.survey_rover.new.tour c.survey_rover.new.sheet in
+    let r = c.survey_rover.result in
     let Seen : DrawnRover → Pair (Option Mirror) Turn → Type 0 =
     λ b f. Surveys (seen_floor (place_below f) (heading_below f) (floor_of b.drawing)) (seen_field (place_below f) (field_of b.drawing)) (place_seen f b.place) before after r in
-    let framed = c.in-ok-seen.ensures in
+    let framed = c.in_ok-seen.ensures in
     record {
       unframed = λ h. absurd (omega (arith, framed.0));
       framed = λ h.
-          subst (λ (a : Result Drawing MapFault). MapAnswered c.args.frame a before after r) c.in-ok-drawing.ensures.is
-          (subst (λ b. Seen b (frame_of c.args.frame)) c.new.ensures (subst (λ f. Seen c.new.result f) framed.1 c.survey-rover.ensures));
+          subst (λ (a : Result Drawing MapFault). MapAnswered c.args.frame a before after r) c.in_ok-drawing.ensures.is
+          (subst (λ b. Seen b (frame_of c.args.frame)) c.new.ensures (subst (λ f. Seen c.new.result f) framed.1 c.survey_rover.ensures));
     }
