@@ -6,11 +6,11 @@ use Rattle.survey_program.proofs.chart_of.Goals as goal
 
 pub loop-i-preserved : goal.loop-i-preserved
 loop-i-preserved g c =
-    c.in-ok-push.ensures.items
+    c.in_ok-push.ensures.items
     ∙ ap (λ (xs : List (Slot g.row.T.Denot)). xs ++ (Empty ∷ [])) c.loop-i.invariant
-    ∙ replicate-append-replicate c.loop-i.-i 1 Empty
+    ∙ replicate-append-replicate c.loop-i._i 1 Empty
 
 pub returns : goal.returns
 returns g c =
-    let all : c.loop-i.-i ≡ 4096 = omega arith in
+    let all : c.loop-i._i ≡ 4096 = omega arith in
     c.loop-i.invariant ∙ ap (λ (n : ℕ). replicate n Empty) all

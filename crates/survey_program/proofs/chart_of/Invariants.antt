@@ -3,4 +3,4 @@ use Rattle.chart.specs.declared.slot.Slot.TheVariants.{Empty}
 use Rattle.survey_program.proofs.chart_of.Given as goal
 
 abbrev pub invariant-loop-i : goal.invariant-loop-i
-invariant-loop-i g l = vec_items l.chart ≡ replicate l.-i Empty
+invariant-loop-i g l = vec_items l.chart ≡ replicate l._i Empty

@@ -12,6 +12,6 @@ returns g c =
       | inl h ↦ let j = c.advance.ensures.short rover 0 h begun in (j.floor, j.field)
       | inr h ↦ let j = (c.advance.ensures.law rover 0 h begun).0 in (j.floor, j.field)
     ] in
-    let back = c.end-given-back.ensures.is.0 in
+    let back = c.end-given_back.ensures.is.0 in
     let stays = c.step-stepped.ensures.stays in
     (stays.0 ∙ ap G.floor back ∙ kept.0, stays.1 ∙ ap G.field back ∙ kept.1)
