@@ -1,6 +1,6 @@
 -- The levels of the ten digits.
-use Rattle.std.proofs.Common.{◌≡◌, ℕ, zero, suc, ◌+◌, ◌*◌, ◌<◌, Bool, true, false, pos, negsuc, sym, refl, ap, arith}
-use lib.Ieee.{Float, fin, binary32, mul, of_int, of_bits, of_fields, round, units, odd}
+use Rattle.std.proofs.Common.{◌≡◌, ℕ, zero, suc, ◌*◌, ◌<◌, false, refl, arith}
+use lib.Ieee.{binary32, mul, of_int, of_bits}
 use lib.Ieee.Exact.{HasValue}
 use Rattle.drawn_floor.specs.Lights.{lux, twelve_and_half}
 

@@ -1,16 +1,12 @@
 -- The two laws of the floor.
-use Rattle.std.specs.Prelude.{◌≡◌, ℕ, ◌+◌, ◌*◌, Bool, true, false, ◌&&◌, ◌||◌, ◌⊎◌, Some, None, Option, ◌≢◌, refl}
-use Rattle.std.proofs.Common.{sym, ◌∙◌, ap, inl, inr, arith}
-use Rattle.std.proofs.lemmas.Bool.{both_ways, or_cases, or_left, or_right}
-use Rattle.board.specs.declared.heading.Heading.{Heading}
+use Rattle.std.specs.Prelude.{◌≡◌, ℕ, ◌+◌, ◌*◌, ◌&&◌, Some, None, Option, ◌≢◌}
+use Rattle.std.proofs.Common.{sym, ◌∙◌, ap, arith}
 use Rattle.board.specs.declared.heading.Heading.TheVariants.{East}
 use Rattle.board.specs.declared.megacell.Megacell.{Megacell}
 use Rattle.board.specs.declared.place.Place.{Place}
-use Rattle.board.specs.Headings.{opposite}
-use Rattle.board.specs.Places.{megacell_of, same_megacell, placed}
+use Rattle.board.specs.Places.{placed}
 use Rattle.board.specs.Corners.{subcell}
-use Rattle.board.specs.Steps.{ahead, beside}
-use Rattle.board.specs.Floors.{Floor, Passes, SameFromBoth, ClosedAtEdge}
+use Rattle.board.specs.Floors.{SameFromBoth, ClosedAtEdge}
 use Rattle.board.proofs.Geometry.{placed_at, beside_back}
 use Rattle.rover.proofs.Passing.{and_swap, and_false}
 use Rattle.map_format.specs.declared.drawing.Drawing.{Drawing}

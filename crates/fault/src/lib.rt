@@ -1,4 +1,6 @@
 //! What every refusal of the library tells, whichever layer it comes from.
+#![tactic(auto)]
+
 ghost use Rattle.std.specs.Prelude.{◌≡◌};
 ghost use Rattle.fault.specs.Refusals.{Refusal};
 

@@ -1,5 +1,7 @@
 //! Writes the text of every refusal, of every layer and of the readings of a drawn floor, a line each: what a person
 //! is told. Nothing is promised of these texts; the lines are compared with the file `stdout`.
+#![tactic(auto)]
+
 use board::heading::Heading;
 use chart::faults::ChartFault;
 use drawn_floor::light::Light;

@@ -1,4 +1,6 @@
 //! Frames: ways to lay the board on itself, so that a floor can be seen from another side.
+#![tactic(auto)]
+
 ghost use Rattle.std.specs.Prelude.{◌≡◌};
 ghost use Rattle.std.specs.Option.{option_map};
 ghost use Rattle.board.specs.declared.heading.Heading.{Heading};

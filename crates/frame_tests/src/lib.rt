@@ -1,12 +1,14 @@
 //! Runs frames, framed rovers and charts on small floors.
+#![tactic(auto)]
+
 #[cfg(test)]
 mod tests {
     use board::heading::Heading;
     use board::place::Place;
     use chart::slot::Slot;
     use chart::slots;
-    use drawn_floor::light::Light;
     use drawn_floor::drawn_rover::DrawnRover;
+    use drawn_floor::light::Light;
     use fault::Fault;
     use frame::Frame;
     use frame::mirror::Mirror;

@@ -1,5 +1,4 @@
 -- A floor and a field, seen through a frame. They are given by the frame's inverse.
-use Rattle.std.specs.Prelude.{Bool}
 use Rattle.board.specs.declared.heading.Heading.{Heading}
 use Rattle.board.specs.declared.heading.Heading.TheVariants.{North}
 use Rattle.board.specs.declared.megacell.Megacell.{Megacell}

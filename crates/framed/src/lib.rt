@@ -1,4 +1,6 @@
 //! A rover seen through a frame is a rover again.
+#![tactic(auto)]
+
 ghost use Rattle.std.specs.Prelude.{◌≡◌};
 ghost use Rattle.framed.specs.Seen.{seen_floor, seen_field};
 ghost use Rattle.framed.specs.Through.{sides_seen, edge_seen};
@@ -31,12 +33,30 @@ impl<R: Rover, F: Frame> Rover for Framed<R, F> {
 
     ghost looks = { λ s. R.Rover.looks s.below };
 
-    ghost sides = { λ s. sides_seen (F.Frame.taken s.frame) (F.Frame.returned s.frame) (F.Frame.turned s.frame) (F.Frame.restored s.frame)
-        (record { undone = F.Frame.undone s.frame; redone = F.Frame.redone s.frame; undoes = F.Frame.undoes s.frame; redoes = F.Frame.redoes s.frame; together = F.Frame.together s.frame; rejoined = F.Frame.rejoined s.frame; steps = F.Frame.steps s.frame })
+    ghost sides = { λ s.
+        sides_seen (F.Frame.taken s.frame) (F.Frame.returned s.frame) (F.Frame.turned s.frame) (F.Frame.restored s.frame)
+        (record {
+          undone = F.Frame.undone s.frame;
+          redone = F.Frame.redone s.frame;
+          undoes = F.Frame.undoes s.frame;
+          redoes = F.Frame.redoes s.frame;
+          together = F.Frame.together s.frame;
+          rejoined = F.Frame.rejoined s.frame;
+          steps = F.Frame.steps s.frame;
+        })
         (R.Rover.floor s.below) (R.Rover.sides s.below) };
 
-    ghost edge = { λ s. edge_seen (F.Frame.taken s.frame) (F.Frame.returned s.frame) (F.Frame.turned s.frame) (F.Frame.restored s.frame)
-        (record { undone = F.Frame.undone s.frame; redone = F.Frame.redone s.frame; undoes = F.Frame.undoes s.frame; redoes = F.Frame.redoes s.frame; together = F.Frame.together s.frame; rejoined = F.Frame.rejoined s.frame; steps = F.Frame.steps s.frame })
+    ghost edge = { λ s.
+        edge_seen (F.Frame.taken s.frame) (F.Frame.returned s.frame) (F.Frame.turned s.frame) (F.Frame.restored s.frame)
+        (record {
+          undone = F.Frame.undone s.frame;
+          redone = F.Frame.redone s.frame;
+          undoes = F.Frame.undoes s.frame;
+          redoes = F.Frame.redoes s.frame;
+          together = F.Frame.together s.frame;
+          rejoined = F.Frame.rejoined s.frame;
+          steps = F.Frame.steps s.frame;
+        })
         (R.Rover.floor s.below) (R.Rover.edge s.below) };
 
     fn look(&mut self, heading: Heading) -> bool {

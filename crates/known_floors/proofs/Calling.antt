@@ -12,7 +12,6 @@ use Rattle.map_format.specs.declared.drawing.Drawing.{Drawing}
 use Rattle.map_format.specs.declared.faults.MapFault.{MapFault}
 use Rattle.map_format.specs.Answer.{answer}
 use Rattle.log_record.specs.declared.faults.LogFault.{LogFault}
-use Rattle.log_record.specs.Layout.{start_of}
 use Rattle.log_format.specs.Log.{refusal}
 use Rattle.survey.specs.declared.faults.SurveyFault.{SurveyFault}
 use Rattle.survey.specs.declared.faults.SurveyFault.TheVariants.{Frame, Map, Log, Chart, Rover, Sweep, Sheet as Short}

@@ -14,7 +14,6 @@ use Rattle.board.proofs.Geometry.{placed_at}
 use Rattle.frame.specs.declared.faults.FrameFault.TheVariants.{Unknown}
 use Rattle.frame.specs.Frames.{mirrored, flipped, quarter, unquarter, times}
 use Rattle.framed.specs.Seen.{megacell_below}
-use Rattle.map_format.specs.declared.drawing.Drawing.{Drawing}
 use Rattle.map_format.specs.Answer.{answer, drawn}
 use Rattle.map_format.specs.Cells.{digit_of, tabled, megacell_at}
 use Rattle.drawn_floor.specs.Floor.{floor_of}
@@ -28,7 +27,7 @@ use Rattle.sheet.specs.Sheets.{lined}
 use Rattle.survey.specs.declared.faults.SurveyFault.TheVariants.{Frame}
 use Rattle.survey.specs.Course.{or_else, moves_in, old_count, sheet_after}
 use Rattle.survey.specs.Maps.{map_floor, map_start}
-use Rattle.known_floors.specs.Outcomes.{Outcome, Sheet, driven, in_frame, refused_by, drawn as outcome_of}
+use Rattle.known_floors.specs.Outcomes.{Sheet, driven, in_frame, refused_by, drawn as outcome_of}
 use Rattle.known_floors.specs.Table.{map, Given, EachGiven, single, double, corner, table}
 
 -- a run that is home by its nth move, and not before, leaves the sheet after n moves

@@ -1,4 +1,6 @@
 //! A table of worked floors, and that the written rules give each row of it. Nothing here runs.
+#![tactic(auto)]
+
 ghost use Rattle.std.specs.Prelude.{◌≡◌, length};
 ghost use Rattle.known_floors.specs.Calls.{LogCallsGive, MapCallsGive};
 ghost use Rattle.known_floors.specs.Outcomes.{bytes_of, surveyed_map};

@@ -1,5 +1,7 @@
 //! Reads each line of standard input as a log, `name:bytes in hex`, and says what the reader answers:
 //! the number and the place of the refusal, or that the log is accepted.
+#![tactic(auto)]
+
 ghost use Rattle.std.specs.Prelude.{◌≡◌, ◌++◌, IfOk, string_bytes};
 ghost use Rattle.log_format.specs.Known.{told_of};
 ghost use Rattle.log_format.specs.Log.{refusal};

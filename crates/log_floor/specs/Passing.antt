@@ -1,15 +1,11 @@
 -- The two laws of the floor that a log tells of.
-use Rattle.std.specs.Prelude.{◌≡◌, Bool, true, false, ◌&&◌, ◌||◌, Some, Option, refl}
-use Rattle.std.proofs.Common.{sym, ◌∙◌, ap, inl, inr}
-use Rattle.std.proofs.lemmas.Bool.{both_ways, or_cases, or_left, or_right}
+use Rattle.std.specs.Prelude.{◌≡◌, ◌&&◌, Option, refl}
+use Rattle.std.proofs.Common.{sym, ◌∙◌, ap}
 use Rattle.board.specs.declared.heading.Heading.{Heading}
 use Rattle.board.specs.declared.heading.Heading.TheVariants.{North, East, South, West}
 use Rattle.board.specs.declared.megacell.Megacell.{Megacell}
-use Rattle.board.specs.declared.place.Place.{Place}
 use Rattle.board.specs.Headings.{opposite}
-use Rattle.board.specs.Places.{megacell_of, same_megacell}
-use Rattle.board.specs.Steps.{ahead}
-use Rattle.board.specs.Floors.{Floor, Passes, SameFromBoth, ClosedAtEdge}
+use Rattle.board.specs.Floors.{SameFromBoth, ClosedAtEdge}
 use Rattle.board.proofs.Geometry.{beside_back}
 use Rattle.rover.proofs.Passing.{and_swap, and_false}
 use Rattle.log_record.specs.declared.record.Record.{Record}

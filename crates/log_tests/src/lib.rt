@@ -1,4 +1,6 @@
 //! Runs the log reader and the log floor's rover on logs whose answers are known.
+#![tactic(auto)]
+
 ghost use Rattle.std.specs.Prelude.{◌≡◌};
 ghost use Rattle.log_format.specs.Log.{refusal};
 ghost use Rattle.log_tests.specs.Said.{said_of};

@@ -1,5 +1,5 @@
 -- The digit that a byte is.
-use Rattle.std.proofs.Common.{◌≡◌, ℕ, ◌-◌, ◌<◌, ◌≤◌, Bool, true, false, T, leb, Some, None, Option, sym, refl, ap, arith, le→leb, leb→le}
+use Rattle.std.proofs.Common.{◌≡◌, ℕ, ◌-◌, ◌<◌, ◌≤◌, Bool, true, false, T, leb, Some, ap, le→leb, leb→le}
 use mathlib.Core.HLevel.{is_prop→PathP}
 use native.Mathlib.Bridge.{le_prop}
 use Rattle.map_format.specs.declared.digit.Digit.{Digit}

@@ -1,11 +1,10 @@
 -- Rows begin where the rules say.
-use Rattle.std.proofs.Common.{◌≡◌, ℕ, zero, suc, ◌+◌, ◌-◌, ◌*◌, ◌/◌, ◌%◌, ◌<◌, ◌≤◌, Bool, true, false, not, ◌&&◌, eqb, ltb, leb, ◌⊎◌, List, length, get_or, Some, None, Option, sym, refl, ap, ◌∙◌, subst, inl, inr, add-mul, add-one, arith}
+use Rattle.std.proofs.Common.{◌≡◌, ℕ, zero, suc, ◌+◌, ◌-◌, ◌*◌, ◌/◌, ◌%◌, ◌<◌, ◌≤◌, true, false, eqb, leb, List, length, get_or, Some, None, Option, sym, refl, ap, ◌∙◌, subst, inl, inr, add-mul, add-one, arith}
 use Rattle.std.proofs.lemmas.Bool.{and_parts, and_cases, eqb-true, eqb-false, le-leb, lt-ltb, both_ways, cases_lt}
 use Rattle.std.proofs.lemmas.Nat.{div-add-mod', mod_below, mul-le}
-use Rattle.firsts.specs.First.{first}
 use Rattle.firsts.proofs.Firsts.{first_some}
 use Rattle.map_format.specs.Bytes.{stands}
-use Rattle.map_format.specs.Rows.{width, row_at, row_end, is_at, good_row, bad_row}
+use Rattle.map_format.specs.Rows.{width, row_at, row_end, is_at, bad_row}
 use Rattle.map_format.specs.Layout.{Begins, RowsLie}
 use Rattle.map_format.proofs.Rowing.{not_bad}
 

@@ -1,5 +1,5 @@
 -- A table of cells, place by place.
-use Rattle.std.proofs.Common.{◌≡◌, ℕ, ◌<◌, List, map, length, get_or, arith}
+use Rattle.std.proofs.Common.{◌≡◌, ℕ, ◌<◌, List, length, get_or, arith}
 use Rattle.std.proofs.lemmas.List.FromFn.{fill_by_all, get_or-map-range_with_len}
 use Rattle.map_format.specs.declared.cell.Cell.{Cell}
 use Rattle.map_format.specs.Cells.{tabled}

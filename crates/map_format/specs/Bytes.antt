@@ -1,5 +1,5 @@
 -- The bytes of a map: LF is 10, # is 35, . is 46, S is 83, the digits are 48 to 57.
-use Rattle.std.specs.Prelude.{ℕ, Bool, not, ◌&&◌, ◌||◌, List, length, Some, None, Option, ◌==◌, nat_le, slice_index}
+use Rattle.std.specs.Prelude.{ℕ, Bool, not, ◌&&◌, ◌||◌, List, length, Option, ◌==◌, nat_le, slice_index}
 use Rattle.firsts.specs.First.{first}
 
 abbrev pub is_digit : ℕ → Bool

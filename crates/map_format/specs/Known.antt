@@ -1,6 +1,6 @@
 -- The answers to some known maps.
-use Rattle.std.specs.Prelude.{◌≡◌, List, [], ◌∷◌, Err}
-use Rattle.map_format.specs.declared.faults.MapFault.TheVariants.{Length, ForbiddenByte, BadRow, ExtraRow, NoStart, SecondStart}
+use Rattle.std.specs.Prelude.{◌≡◌, [], ◌∷◌, Err}
+use Rattle.map_format.specs.declared.faults.MapFault.TheVariants.{Length, ForbiddenByte, BadRow, NoStart, SecondStart}
 use Rattle.map_format.specs.Answer.{answer}
 
 pub record KnownMaps : Type 0 where

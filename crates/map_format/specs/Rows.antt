@@ -1,5 +1,5 @@
 -- Where the rows of a map lie. Each row ends with LF, which is no part of its width.
-use Rattle.std.specs.Prelude.{ℕ, ◌+◌, ◌*◌, Bool, true, false, not, ◌&&◌, List, length, Some, None, Option, ◌==◌, nat_le, nat_lt}
+use Rattle.std.specs.Prelude.{ℕ, ◌+◌, ◌*◌, Bool, false, not, ◌&&◌, List, length, Some, None, Option, ◌==◌, nat_le, nat_lt}
 use Rattle.map_format.specs.Bytes.{first_from}
 
 -- the offset of the LF that ends the row which begins at an offset

@@ -1,4 +1,6 @@
 //! Runs the map reader and the drawn floor's rover on maps whose answers are known.
+#![tactic(auto)]
+
 ghost use Rattle.std.specs.Prelude.{◌≡◌};
 ghost use Rattle.map_format.specs.Answer.{answer};
 ghost use Rattle.map_tests.specs.Said.{said_of};
@@ -28,8 +30,8 @@ fn said(map: &[u8]) -> (u8, usize)
 mod tests {
     use super::*;
     use board::heading::Heading;
-    use drawn_floor::light::Light;
     use drawn_floor::drawn_rover::DrawnRover;
+    use drawn_floor::light::Light;
     use rover::meaning::Rover;
     use std::test::Fail;
 

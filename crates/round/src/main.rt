@@ -1,6 +1,8 @@
 //! Reads a map from standard input, stands a rover at its start, looks to the four sides, drives once round the four
 //! subcells of the start's megacell, and prints each look, each step with its place and reading, and the counts; or
 //! the refusal's number and place.
+#![tactic(auto)]
+
 use board::heading::Heading;
 use chart::slot::Slot;
 use chart::slots;

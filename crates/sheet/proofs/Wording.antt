@@ -1,8 +1,8 @@
 -- A line of a word and numbers, written piece by piece.
-use Rattle.std.proofs.Common.{◌≡◌, ℕ, zero, suc, ◌+◌, ◌<◌, ◌≤◌, List, [], ◌∷◌, ◌++◌, length, get_or, take, drop, decimal, sym, refl, ap, ◌∙◌, subst, append_assoc, add-zero, add-one, arith, length-append}
+use Rattle.std.proofs.Common.{◌≡◌, ℕ, zero, suc, ◌+◌, ◌<◌, List, [], ◌∷◌, ◌++◌, length, get_or, take, drop, decimal, sym, refl, ap, ◌∙◌, subst, append_assoc, add-zero, add-one, arith, length-append}
 use Rattle.std.specs.List.{flat_map}
 use Rattle.std.proofs.lemmas.List.{append-nil, take-append-drop, take_all}
-use Rattle.sheet.specs.Writing.{written, Room, Put}
+use Rattle.sheet.specs.Writing.{Room, Put}
 use Rattle.sheet.specs.Sheets.{spaced, worded}
 use Rattle.sheet.proofs.Splicing.{put_more, room_first, room_next}
 

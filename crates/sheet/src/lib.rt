@@ -1,4 +1,6 @@
 //! The sheet that a sweep leaves, and the line that a refusal leaves, as text in a lent buffer.
+#![tactic(auto)]
+
 pub mod faults;
 pub mod layout;
 mod letters;

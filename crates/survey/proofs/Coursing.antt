@@ -1,12 +1,11 @@
 -- How far a run drove, from what a sweep promises of it.
-use Rattle.std.proofs.Common.{◌≡◌, ℕ, ◌+◌, ◌-◌, ◌<◌, ◌≤◌, Bool, true, false, ◌⊎◌, List, ◌++◌, length, get_or, take, drop, Some, None, Option, sym, refl, ap, ◌∙◌, subst, inl, inr, arith, length-drop}
+use Rattle.std.proofs.Common.{◌≡◌, ℕ, ◌+◌, ◌-◌, ◌<◌, ◌≤◌, Bool, true, false, List, ◌++◌, length, get_or, take, drop, sym, refl, ap, ◌∙◌, subst, inl, inr, arith, length-drop}
 use Rattle.std.proofs.lemmas.Bool.{cases_lt}
 use Rattle.std.proofs.lemmas.List.{same_lists, get_or_default, get_or-drop, take-append-drop}
-use Rattle.firsts.specs.First.{first}
 use Rattle.firsts.proofs.Firsts.{first_none, first_here}
 use Rattle.board.specs.declared.place.Place.{Place}
 use Rattle.board.specs.Floors.{Floor}
-use Rattle.tour.specs.Tour.{tour, letters, home_after, Underway}
+use Rattle.tour.specs.Tour.{home_after, Underway}
 use Rattle.sweep.specs.Promise.{SameFrom}
 use Rattle.survey.specs.Course.{or_else, moves_in}
 

@@ -1,22 +1,17 @@
 -- What one run of a new sweep over an empty chart leaves, from what the sweep promises.
-use Rattle.std.proofs.Common.{◌≡◌, ℕ, ◌+◌, ◌<◌, ◌≤◌, Bool, true, false, ◌⊎◌, List, ◌++◌, length, get_or, take, drop, sym, refl, ap, ◌∙◌, subst, inl, inr, zero-add, arith}
+use Rattle.std.proofs.Common.{◌≡◌, ℕ, ◌+◌, ◌≤◌, List, length, sym, ap, ◌∙◌, subst, inl, inr, zero-add, arith}
 use Rattle.std.proofs.lemmas.Bool.{cases_lt}
-use Rattle.board.specs.declared.place.Place.{Place}
-use Rattle.board.specs.Floors.{Floor}
 use Rattle.board.specs.Headings.{letter}
-use Rattle.board.specs.Places.{megacell_of}
 use Rattle.rover.specs.declared.meaning.Rover.{Ghosts}
 use Rattle.chart.specs.declared.slot.Slot.{Slot}
-use Rattle.chart.specs.declared.slot.Slot.TheVariants.{Empty, Holds}
-use Rattle.chart.specs.Charts.{slot_at, SameBeyond}
-use Rattle.tour.specs.History.{old, times, Has}
-use Rattle.tour.specs.Ground.{Ground, Number}
+use Rattle.chart.specs.Charts.{SameBeyond}
+use Rattle.tour.specs.History.{old, times}
 use Rattle.tour.specs.Tour.{tour, letters, visited, move_after, tour_looks, home_after}
 use Rattle.tour.proofs.Numbers.{one_number}
 use Rattle.sweep.specs.declared.sweep.Record.{Record}
 use Rattle.sweep.specs.declared.sweep.Sweep.{Sweep}
 use Rattle.sweep.specs.Promise.{Promise, OnChart, Letters, SameFrom}
-use Rattle.sweep.specs.Journey.{Journey, Charts, Ended}
+use Rattle.sweep.specs.Journey.{Journey, Charts}
 use Rattle.sweep.proofs.Gathering.{letters_listed}
 use Rattle.survey.specs.Course.{moves_in, old_count, record_after}
 use Rattle.survey.specs.Surveys.{Driven}

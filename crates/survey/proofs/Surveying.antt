@@ -1,8 +1,7 @@
 -- The sheet of a run: its letters are letters, and what is laid out is what the run leaves.
-use Rattle.std.proofs.Common.{◌≡◌, ℕ, zero, suc, ◌+◌, ◌-◌, ◌<◌, ◌≤◌, Bool, true, false, cond, not, ltb, List, [], ◌∷◌, ◌++◌, length, get_or, take, drop, Some, None, Option, sym, refl, ap, ◌∙◌, subst, arith, length-append}
+use Rattle.std.proofs.Common.{◌≡◌, ℕ, zero, suc, ◌+◌, ◌-◌, ◌<◌, ◌≤◌, Bool, true, false, cond, not, ltb, List, [], ◌∷◌, length, take, drop, Some, None, sym, refl, ap, ◌∙◌, arith, length-append}
 use Rattle.std.proofs.lemmas.Bool.{ltb-true, ltb-false}
 use Rattle.std.proofs.lemmas.List.{take_at}
-use Rattle.firsts.specs.First.{first}
 use Rattle.firsts.proofs.Firsts.{first_none}
 use Rattle.board.specs.declared.heading.Heading.{Heading}
 use Rattle.board.specs.declared.heading.Heading.TheVariants.{North, East, South, West}
@@ -13,7 +12,7 @@ use Rattle.chart.specs.declared.slot.Slot.{Slot}
 use Rattle.chart.specs.Charts.{SameBeyond}
 use Rattle.tour.specs.Tour.{tour, letters}
 use Rattle.sheet.specs.declared.faults.SheetFault.{SheetFault}
-use Rattle.sheet.specs.declared.faults.SheetFault.TheVariants.{NoLetter, Short}
+use Rattle.sheet.specs.declared.faults.SheetFault.TheVariants.{Short}
 use Rattle.sheet.specs.Refusing.{is_letter, no_letter, letter_or, short_for, sheet_fault}
 use Rattle.sweep.specs.declared.sweep.Record.{Record}
 use Rattle.sheet.specs.Sheets.{sheet}

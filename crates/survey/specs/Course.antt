@@ -1,5 +1,5 @@
 -- How far one run drives, and what it leaves, as functions of the floor, the start and the length of the tour buffer.
-use Rattle.std.specs.Prelude.{ℕ, ◌+◌, Bool, not, List, [], ◌∷◌, Some, None, Option}
+use Rattle.std.specs.Prelude.{ℕ, ◌+◌, not, List, [], ◌∷◌, Some, None, Option}
 use Rattle.firsts.specs.First.{first}
 use Rattle.board.specs.declared.place.Place.{Place}
 use Rattle.board.specs.Counting.{bit}

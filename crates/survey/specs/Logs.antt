@@ -1,5 +1,5 @@
 -- The survey of a log: first its frame, then its bytes, then the survey of the floor that it tells of, seen through the frame.
-use Rattle.std.specs.Prelude.{◌≡◌, ℕ, ◌<◌, ◌≤◌, List, Some, None, Ok, Err, Option, Result}
+use Rattle.std.specs.Prelude.{◌≡◌, ℕ, ◌<◌, ◌≤◌, List, Some, None, Err, Option, Result}
 use Rattle.board.specs.declared.place.Place.{Place}
 use Rattle.board.specs.Floors.{Floor}
 use Rattle.frame.specs.declared.faults.FrameFault.{FrameFault}

@@ -2,8 +2,8 @@ ghost use Rattle.std.specs.Prelude.{◌≡◌};
 ghost use Rattle.survey.specs.Logs.{SurveysLog};
 ghost use Rattle.survey.specs.Surveys.{lent};
 
-use crate::faults::SurveyFault;
 use crate::any_rover::survey_rover;
+use crate::faults::SurveyFault;
 use chart::slot::Slot;
 use frame::numbered::numbered;
 use framed::Framed;

@@ -2,11 +2,11 @@ ghost use Rattle.std.specs.Prelude.{◌≡◌};
 ghost use Rattle.survey.specs.Maps.{SurveysMap};
 ghost use Rattle.survey.specs.Surveys.{lent};
 
-use crate::faults::SurveyFault;
 use crate::any_rover::survey_rover;
+use crate::faults::SurveyFault;
 use chart::slot::Slot;
-use drawn_floor::light::Light;
 use drawn_floor::drawn_rover::DrawnRover;
+use drawn_floor::light::Light;
 use frame::numbered::numbered;
 use framed::Framed;
 use map_format::drawing::Drawing;

@@ -1,5 +1,7 @@
 //! Reads a log from standard input and writes the sheet of its survey, seen as it was logged (frame 0); or the line
 //! that tells its refusal.
+#![tactic(auto)]
+
 use std::io::Read;
 use survey::log::survey_log;
 use survey_program::{SHEET, TOUR, chart_of, show};

@@ -1,5 +1,7 @@
 //! Reads a map from standard input and writes the sheet of its survey, seen as it is drawn (frame 0); or the line
 //! that tells its refusal.
+#![tactic(auto)]
+
 use std::io::Read;
 use survey::map::survey_map;
 use survey_program::{SHEET, TOUR, chart_of, show};

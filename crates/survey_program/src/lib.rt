@@ -1,4 +1,6 @@
 //! What the survey programs share: their buffers, and how they write what a survey answered.
+#![tactic(auto)]
+
 ghost use Rattle.std.specs.Prelude.{◌≡◌, replicate, IfOk};
 ghost use Rattle.chart.specs.declared.slot.Slot.TheVariants.{Empty};
 ghost use Rattle.survey_program.specs.Shown.{Shown};

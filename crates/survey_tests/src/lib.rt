@@ -1,4 +1,6 @@
 //! Runs the survey in its refusals and frames, and the layouts of the sheet.
+#![tactic(auto)]
+
 #[cfg(test)]
 mod tests {
     use board::place::Place;

@@ -1,4 +1,6 @@
 //! The sweep: it drives a rover over all of its ground, each subcell once, and back to the start.
+#![tactic(auto)]
+
 pub mod call;
 pub mod calls;
 mod choice;

@@ -1,4 +1,6 @@
 //! Runs the sweep on small floors, a full board, a comb and a log, under frames too.
+#![tactic(auto)]
+
 #[cfg(test)]
 mod tests {
     use board::heading::Heading;
@@ -162,7 +164,7 @@ mod tests {
         );
         let (_rover, record) = sweep.end();
         tells(&rt, record, 8, 4, 2);
-        assert!(rt; tour.as_slice() == b"EENWWWSE-");
+        assert!(rt; tour.as_slice() == b"EENWWWSE-".as_slice());
         Ok(())
     }
 }

@@ -1,5 +1,7 @@
 //! The library used rightly: a rover that a sweep holds is driven by that sweep alone, and an ended sweep makes no move.
 //! The edits in the folder misuse/ break this, and the borrow check refuses them.
+#![tactic(auto)]
+
 ghost use Rattle.std.specs.Prelude.{◌≡◌};
 
 use board::heading::Heading;

@@ -2,6 +2,8 @@
 //!
 //! Nothing here runs. Each function stands for one theorem, which its contract names, and is proved when the
 //! theorem is; the statements are in `specs/`, to be read from `History` to `Examples`.
+#![tactic(auto)]
+
 ghost use Rattle.tour.specs.Examples.{LawsMet, WorkedFloors};
 ghost use Rattle.tour.specs.Ground.{OneNumber};
 ghost use Rattle.tour.specs.Meaning.{Meaning};

@@ -1,4 +1,4 @@
-use Rattle.std.proofs.Common.{◌≡◌, ℕ, ◌<◌, ◌≤◌, length, get_or}
+use Rattle.std.proofs.Common.{◌≡◌, ℕ, ◌<◌, get_or}
 use Rattle.chart.specs.declared.slot.Slot.TheVariants.{Empty}
 use Rattle.chart.specs.Charts.{SameBeyond}
 use Rattle.chart.proofs.slots.empty.Given as goal

@@ -1,4 +1,4 @@
-use Rattle.std.proofs.Common.{◌≡◌, sym, ◌∙◌, arith}
+use Rattle.std.proofs.Common.{sym, ◌∙◌, arith}
 use Rattle.drawn_floor.specs.Passing.{south_east, there}
 use Rattle.drawn_floor.proofs.floor.south_east.Goals as goal
 

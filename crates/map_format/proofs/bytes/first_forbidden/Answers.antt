@@ -1,4 +1,4 @@
-use Rattle.std.proofs.Common.{not, sym, ap, ◌∙◌, arith}
+use Rattle.std.proofs.Common.{not, sym, ap, arith}
 use Rattle.firsts.proofs.Firsts.{first_zero, first_more, first_here}
 use Rattle.map_format.proofs.bytes.first_forbidden.Goals as goal
 

@@ -1,4 +1,4 @@
-use Rattle.std.proofs.Common.{sym, ap, ◌∙◌, arith, rules}
+use Rattle.std.proofs.Common.{sym, arith, rules}
 use Rattle.std.proofs.lemmas.Bool.Decides.{nat_tests}
 use Rattle.firsts.proofs.Firsts.{first_none, first_more, first_here}
 use Rattle.map_format.proofs.bytes.first_from.Goals as goal

@@ -1,4 +1,4 @@
-use Rattle.std.proofs.Common.{◌≡◌, ◌<◌, ◌≢◌, length, ◌∙◌, arith, length-set, get_or-set_other, get_or-set_same, below_more}
+use Rattle.std.proofs.Common.{◌<◌, ◌≢◌, length, arith, length-set, get_or-set_other, get_or-set_same, below_more}
 use Rattle.map_format.proofs.Tables.{tabled_all}
 use Rattle.map_format.specs.declared.cell.Cell.TheVariants.{Blocked}
 use Rattle.map_format.proofs.cells.draw.Goals as goal

@@ -1,4 +1,4 @@
-use Rattle.std.proofs.Common.{sym, ◌∙◌, arith, rules}
+use Rattle.std.proofs.Common.{sym, arith, rules}
 use Rattle.firsts.proofs.Firsts.{first_zero, first_more, first_here}
 use Rattle.map_format.proofs.rows.first_bad_row.Goals as goal
 

@@ -1,4 +1,4 @@
-use Rattle.sheet.specs.Sheets.{letter_lines, last_line}
+use Rattle.sheet.specs.Sheets.{last_line}
 use Rattle.sheet.proofs.Splicing.{part_put, room_part}
 use Rattle.sheet.proofs.layout.put_last.Goals as goal
 

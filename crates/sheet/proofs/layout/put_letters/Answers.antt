@@ -1,4 +1,4 @@
-use Rattle.sheet.specs.Sheets.{letter_lines, last_line}
+use Rattle.sheet.specs.Sheets.{letter_lines}
 use Rattle.sheet.proofs.Splicing.{part_put, room_part}
 use Rattle.sheet.proofs.layout.put_letters.Goals as goal
 

@@ -1,4 +1,4 @@
-use Rattle.std.proofs.Common.{◌≡◌, ◌≤◌, length, get_or, decimal, sym, ◌∙◌, arith}
+use Rattle.std.proofs.Common.{◌≡◌, ◌≤◌, length, get_or, decimal, arith}
 use Rattle.sheet.proofs.Numbers.{few_digits}
 use Rattle.sheet.proofs.Wording.{length_more, length_worded}
 use Rattle.sheet.proofs.layout.worded_length.Goals as goal

@@ -1,4 +1,4 @@
-use Rattle.std.proofs.Common.{not, sym, ap, ◌∙◌, arith}
+use Rattle.std.proofs.Common.{not, sym, ap, arith}
 use Rattle.firsts.proofs.Firsts.{first_zero, first_more, first_here}
 use Rattle.sheet.proofs.letters.first_unlettered.Goals as goal
 

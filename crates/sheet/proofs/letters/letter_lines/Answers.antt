@@ -1,5 +1,5 @@
-use Rattle.std.proofs.Common.{arith, rules}
-use Rattle.sheet.proofs.Lining.{Laid, line_room, laid_more, laid_all}
+use Rattle.std.proofs.Common.{arith}
+use Rattle.sheet.proofs.Lining.{line_room, laid_more, laid_all}
 use Rattle.sheet.proofs.letters.letter_lines.Goals as goal
 
 pub letters_line-at-requires : goal.letters_line-at-requires

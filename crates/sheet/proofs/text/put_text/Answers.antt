@@ -1,5 +1,5 @@
-use Rattle.std.proofs.Common.{length, rules}
-use Rattle.sheet.proofs.Splicing.{part_written, part_room}
+use Rattle.std.proofs.Common.{rules}
+use Rattle.sheet.proofs.Splicing.{part_written}
 use Rattle.sheet.proofs.text.put_text.Goals as goal
 
 pub returns : goal.returns

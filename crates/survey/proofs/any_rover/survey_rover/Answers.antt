@@ -1,8 +1,6 @@
-use Rattle.std.proofs.Common.{◌≡◌, ◌≤◌, length, Err, sym, refl, ap, ◌∙◌, subst, arith}
+use Rattle.std.proofs.Common.{length, Err, sym, ap, ◌∙◌, subst, arith}
 use Rattle.std.proofs.lemmas.Result.{err_from_is_err_and}
-use Rattle.fault.specs.declared.layer.Layer.TheVariants.{Sheet as SheetLayer}
-use Rattle.fault.specs.Refusals.{refused}
-use Rattle.survey.specs.Course.{moves_in, sheet_after}
+use Rattle.survey.specs.Course.{moves_in}
 use Rattle.survey.specs.Faults.{told}
 use Rattle.survey.specs.declared.faults.SurveyFault.TheVariants.{Sheet}
 use Rattle.survey.specs.Surveys.{lent, Surveys}

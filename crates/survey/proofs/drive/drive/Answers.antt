@@ -1,4 +1,4 @@
-use Rattle.std.proofs.Common.{◌≡◌, ℕ, ◌+◌, length, sym, ap, ◌∙◌, subst, zero-add}
+use Rattle.std.proofs.Common.{◌≡◌, ℕ, ◌+◌, length, ap, ◌∙◌, subst, zero-add}
 use Rattle.sweep.specs.Promise.{Letters}
 use Rattle.survey.specs.Course.{moves_in, record_after}
 use Rattle.survey.specs.Surveys.{Driven}

@@ -1,4 +1,4 @@
-use Rattle.std.proofs.Common.{◌≡◌, ℕ, List, Some, Option, sym, ap, ◌∙◌, subst, arith}
+use Rattle.std.proofs.Common.{◌≡◌, ℕ, List, Option, sym, ap, ◌∙◌, subst, arith}
 use Rattle.frame.specs.declared.mirror.Mirror.{Mirror}
 use Rattle.frame.specs.declared.pair.Pair.{Pair}
 use Rattle.frame.specs.declared.turn.Turn.{Turn}

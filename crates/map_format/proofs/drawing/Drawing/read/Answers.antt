@@ -1,4 +1,4 @@
-use Rattle.std.proofs.Common.{◌≡◌, sym, arith, rules}
+use Rattle.std.proofs.Common.{sym, arith, rules}
 use Rattle.map_format.proofs.Drawn.{Accepted, inside, lies_on}
 use Rattle.map_format.proofs.drawing.Drawing.read.Goals as goal
 use Rattle.map_format.proofs.drawing.Drawing.read.Goals.{After-draw, at-returns}

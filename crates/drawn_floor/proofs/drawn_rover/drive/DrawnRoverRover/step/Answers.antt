@@ -1,4 +1,4 @@
-use Rattle.std.proofs.Common.{◌≡◌, sym, ◌∙◌, rules}
+use Rattle.std.proofs.Common.{sym, ◌∙◌, rules}
 use Rattle.drawn_floor.specs.Floor.{floor_of}
 use Rattle.rover.proofs.Passing.{pass, block}
 use Rattle.drawn_floor.proofs.drawn_rover.drive.DrawnRoverRover.step.Goals as goal
