@@ -4,7 +4,7 @@ use Rattle.map_format.specs.declared.faults.MapFault.TheVariants.{Length, Forbid
 use Rattle.map_format.specs.Answer.{answer}
 
 pub record KnownMaps : Type 0 where
-  -- rows.S and S.
+  -- rows .S and S.
   pub two_starts : answer (46 ∷ 83 ∷ 10 ∷ 83 ∷ 46 ∷ 10 ∷ []) ≡ Err (SecondStart 3)
   -- row #
   pub no_start : answer (35 ∷ 10 ∷ []) ≡ Err (NoStart 2)
