@@ -5,8 +5,7 @@ use Rattle.board.specs.declared.heading.Heading.{Heading}
 use Rattle.board.specs.declared.heading.Heading.TheVariants.{North, East, South, West}
 use Rattle.board.specs.declared.corner.Corner.{Corner}
 use Rattle.board.specs.declared.corner.Corner.TheVariants.{NorthWest, NorthEast, SouthEast, SouthWest}
-use Rattle.board.specs.declared.megacell.Megacell.{Megacell}
-use Rattle.board.specs.declared.place.Place.{Place}
+use Rattle.board.specs.Squares.{Megacell, Place}
 
 unfoldable pub exit_of : Corner → Heading
 exit_of NorthWest = West

@@ -1,11 +1,10 @@
 -- A floor: which sides of which megacells are open.
 use Rattle.std.specs.Prelude.{◌≡◌, Bool, true, false, ◌⊎◌, Some, None}
 use Rattle.board.specs.declared.heading.Heading.{Heading}
-use Rattle.board.specs.declared.megacell.Megacell.{Megacell}
-use Rattle.board.specs.declared.place.Place.{Place}
+use Rattle.board.specs.Squares.{Megacell, Place}
 use Rattle.board.specs.Headings.{opposite}
 use Rattle.board.specs.Places.{megacell_of}
-use Rattle.board.specs.Steps.{ahead, beside}
+use Rattle.board.specs.Steps.{beside}
 
 abbrev pub Floor : Type 0
 Floor = Megacell → Heading → Bool
@@ -25,5 +24,5 @@ pub record Lawful (floor : Floor) : Type 0 where
 
 -- a step from p at a heading may be made, and leads to q: q is the next place, and lies in the same megacell or across an open side
 pub record Passes (floor : Floor) (p : Place) (h : Heading) (q : Place) : Type 0 where
-  pub next : ahead p h ≡ Some q
+  pub next : beside p h ≡ Some q
   pub way : (megacell_of q ≡ megacell_of p) ⊎ (floor (megacell_of p) h ≡ true)

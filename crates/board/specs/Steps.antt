@@ -1,24 +1,16 @@
--- Neighbours: of a place the next subcell at a heading, of a megacell the next megacell. Off the board there is none.
-use Rattle.std.specs.Prelude.{◌+◌, ◌-◌, cond, Some, None, Option, ◌==◌}
+-- Neighbours: the next square at a heading. Off the board there is none.
+use Rattle.std.specs.Prelude.{ℕ, ◌+◌, ◌-◌, cond, Some, None, Option, ◌==◌}
 use Rattle.board.specs.declared.heading.Heading.{Heading}
 use Rattle.board.specs.declared.heading.Heading.TheVariants.{North, East, South, West}
-use Rattle.board.specs.declared.megacell.Megacell.{Megacell}
-use Rattle.board.specs.declared.place.Place.{Place}
-use Rattle.board.specs.Places.{placed, celled}
+use Rattle.board.specs.declared.square.Square.{Square}
+use Rattle.board.specs.Squares.{Place, squared}
 
--- the next place at a heading; none off the board
-unfoldable pub ahead : Place → Heading → Option Place
-ahead p North = cond (p.row == 0) None (placed (p.row - 1) p.column)
-ahead p East = placed p.row (p.column + 1)
-ahead p South = placed (p.row + 1) p.column
-ahead p West = cond (p.column == 0) None (placed p.row (p.column - 1))
-
--- the neighbour of a megacell at a heading; none off the board
-unfoldable pub beside : Megacell → Heading → Option Megacell
-beside m North = cond (m.row == 0) None (celled (m.row - 1) m.column)
-beside m East = celled m.row (m.column + 1)
-beside m South = celled (m.row + 1) m.column
-beside m West = cond (m.column == 0) None (celled m.row (m.column - 1))
+-- the neighbour of a megacell, or the next place of a place, at a heading; none off the board
+unfoldable pub beside : {side : ℕ} → Square side → Heading → Option (Square side)
+beside {side} s North = cond (s.row == 0) None (squared side (s.row - 1) s.column)
+beside {side} s East = squared side s.row (s.column + 1)
+beside {side} s South = squared side (s.row + 1) s.column
+beside {side} s West = cond (s.column == 0) None (squared side s.row (s.column - 1))
 
 abbrev pub or_stay : Option Place → Place → Place
 or_stay None p = p
@@ -26,4 +18,4 @@ or_stay (Some q) p = q
 
 -- the place that a move at a heading enters (a move off the board, which no rover makes, would stay)
 unfoldable pub step : Heading → Place → Place
-step h p = or_stay (ahead p h) p
+step h p = or_stay (beside p h) p

@@ -1,8 +1,7 @@
 -- The numbers of headings, and how the exit goes along with a rover. Cross is a step by the exit, turn a step to its left.
 use Rattle.std.specs.Prelude.{◌≡◌, ◌+◌, ◌%◌, Some}
 use Rattle.board.specs.declared.heading.Heading.{Heading}
-use Rattle.board.specs.declared.megacell.Megacell.{Megacell}
-use Rattle.board.specs.declared.place.Place.{Place}
+use Rattle.board.specs.Squares.{Megacell, Place}
 use Rattle.board.specs.Headings.{left, right, opposite, heading_number}
 use Rattle.board.specs.Places.{megacell_of}
 use Rattle.board.specs.Corners.{exit}

@@ -1,9 +1,8 @@
 ghost use Rattle.std.specs.Prelude.{◌≡◌};
-ghost use Rattle.board.specs.Headings.{left, right, opposite, heading_number, letter, same_heading};
-ghost use Rattle.board.specs.Sameness.{headings_alike};
+ghost use Rattle.board.specs.Headings.{left, right, opposite, heading_number, letter};
 
 /// One of the four ways to go. North is towards row 0, west towards column 0.
-#[derive(Clone, Copy, Debug)]
+#[derive(Clone, Copy, Debug, PartialEq, Eq)]
 pub enum Heading {
     North,
     East,
@@ -13,6 +12,7 @@ pub enum Heading {
 
 impl Heading {
     /// A quarter turn counter-clockwise.
+    #[tactic(auto, unfolding(crate::specs::Headings::left))]
     pub fn left(self) -> Heading
         ensures { result ≡ left self }
     {
@@ -25,6 +25,7 @@ impl Heading {
     }
 
     /// A quarter turn clockwise.
+    #[tactic(auto, unfolding(crate::specs::Headings::right))]
     pub fn right(self) -> Heading
         ensures { result ≡ right self }
     {
@@ -37,6 +38,7 @@ impl Heading {
     }
 
     /// Half a turn.
+    #[tactic(auto, unfolding(crate::specs::Headings::opposite))]
     pub fn opposite(self) -> Heading
         ensures { result ≡ opposite self }
     {
@@ -49,6 +51,7 @@ impl Heading {
     }
 
     /// 0 for north, 1 for east, 2 for south, 3 for west.
+    #[tactic(auto, unfolding(crate::specs::Headings::heading_number))]
     pub fn number(self) -> u8
         ensures { result ≡ heading_number self }
     {
@@ -61,6 +64,7 @@ impl Heading {
     }
 
     /// The ASCII letter N, E, S or W.
+    #[tactic(auto, unfolding(crate::specs::Headings::letter))]
     pub fn letter(self) -> u8
         ensures { result ≡ letter self }
     {
@@ -70,16 +74,5 @@ impl Heading {
             Heading::South => b'S',
             Heading::West => b'W',
         }
-    }
-}
-
-/// Two headings are equal when they have the same number.
-impl PartialEq for Heading {
-    ghost eq = { same_heading };
-
-    ghost laws = { headings_alike };
-
-    fn eq(&self, other: &Heading) -> bool {
-        self.number() == other.number()
     }
 }

@@ -5,4 +5,5 @@ pub mod corner;
 pub mod heading;
 pub mod megacell;
 pub mod place;
+pub mod square;
 pub mod theorems;

@@ -2,7 +2,7 @@
 use Rattle.std.specs.Prelude.{◌≡◌, ℕ, ◌<◌, ◌≤◌, List, length, Some, None, Option, slice_index_or}
 use Rattle.fault.specs.declared.layer.Layer.TheVariants.{Chart}
 use Rattle.fault.specs.Refusals.{Refusal, refused}
-use Rattle.board.specs.declared.place.Place.{Place}
+use Rattle.board.specs.Squares.{Place}
 use Rattle.board.specs.Places.{slot_of}
 use Rattle.chart.specs.declared.faults.ChartFault.{ChartFault}
 use Rattle.chart.specs.declared.faults.ChartFault.TheVariants.{Short}

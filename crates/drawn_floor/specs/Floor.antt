@@ -1,7 +1,6 @@
 -- The floor and the field of a drawing.
 use Rattle.std.specs.Prelude.{Bool, true, false, ◌&&◌, Some, None, Option}
-use Rattle.board.specs.declared.megacell.Megacell.{Megacell}
-use Rattle.board.specs.declared.place.Place.{Place}
+use Rattle.board.specs.Squares.{Megacell, Place}
 use Rattle.board.specs.Floors.{Floor}
 use Rattle.board.specs.Places.{megacell_of}
 use Rattle.board.specs.Steps.{beside}

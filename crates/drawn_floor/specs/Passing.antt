@@ -2,12 +2,10 @@
 use Rattle.std.specs.Prelude.{◌≡◌, ℕ, ◌+◌, ◌*◌, ◌&&◌, Some, None, Option, ◌≢◌}
 use Rattle.std.proofs.Common.{sym, ◌∙◌, ap, arith}
 use Rattle.board.specs.declared.heading.Heading.TheVariants.{East}
-use Rattle.board.specs.declared.megacell.Megacell.{Megacell}
-use Rattle.board.specs.declared.place.Place.{Place}
-use Rattle.board.specs.Places.{placed}
+use Rattle.board.specs.Squares.{Megacell, Place, placed}
 use Rattle.board.specs.Corners.{subcell}
 use Rattle.board.specs.Floors.{SameFromBoth, ClosedAtEdge}
-use Rattle.board.proofs.Geometry.{placed_at, beside_back}
+use Rattle.board.proofs.Geometry.{squared_at, beside_back}
 use Rattle.rover.proofs.Passing.{and_swap, and_false}
 use Rattle.map_format.specs.declared.drawing.Drawing.{Drawing}
 use Rattle.drawn_floor.specs.Floor.{free_at, there_free, floor_of}
@@ -25,7 +23,7 @@ edges d m h e = ap (λ o. free_at d m && there_free d o) e ∙ and_false (free_a
 -- the numbers of a south-east subcell make a place
 pub south_east : (m : Megacell) (r c : ℕ) → r ≡ 2 * m.row + 1 → c ≡ 2 * m.column + 1 → placed r c ≡ Some (subcell m East)
 unfolding subcell
-south_east m r c e f = placed_at r c (subcell m East) e f
+south_east m r c e f = squared_at r c (subcell m East) e f
 
 pub there : (o : Option Place) (p : Place) → o ≡ Some p → o ≢ None
 there o p e f = let z : ◌≡◌ {A = ℕ} 0 1 = cc in omega arith

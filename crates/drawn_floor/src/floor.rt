@@ -1,7 +1,8 @@
 ghost use Rattle.std.specs.Prelude.{◌≡◌, ◌||◌};
 ghost use Rattle.board.specs.declared.heading.Heading.TheVariants.{East};
 ghost use Rattle.board.specs.Corners.{subcell};
-ghost use Rattle.board.specs.Places.{megacell_of, same_megacell};
+ghost use Rattle.board.specs.Squares.{same_square};
+ghost use Rattle.board.specs.Places.{megacell_of};
 ghost use Rattle.drawn_floor.specs.Floor.{free_at, there_free, floor_of};
 
 use board::heading::Heading;
@@ -40,7 +41,7 @@ pub(crate) fn is_open(drawing: &Drawing, megacell: Megacell, heading: Heading) -
 
 /// Whether a step at a heading leads from a place to the next one.
 pub(crate) fn is_passable(drawing: &Drawing, place: Place, next: Place, heading: Heading) -> bool
-    ensures { result ≡ (same_megacell (megacell_of next) (megacell_of place) || floor_of drawing.now (megacell_of place) heading) }
+    ensures { result ≡ (same_square (megacell_of next) (megacell_of place) || floor_of drawing.now (megacell_of place) heading) }
 {
     next.megacell() == place.megacell() || is_open(drawing, place.megacell(), heading)
 }

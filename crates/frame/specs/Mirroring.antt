@@ -4,18 +4,17 @@ use Rattle.std.proofs.Common.{ap, arith}
 use Rattle.std.specs.Option.{option_map}
 use Rattle.board.specs.declared.heading.Heading.{Heading}
 use Rattle.board.specs.declared.heading.Heading.TheVariants.{North, East, South, West}
-use Rattle.board.specs.declared.megacell.Megacell.{Megacell}
-use Rattle.board.specs.declared.place.Place.{Place}
+use Rattle.board.specs.Squares.{Megacell, Place}
 use Rattle.board.specs.Places.{megacell_of}
-use Rattle.board.specs.Steps.{ahead}
-use Rattle.board.proofs.Geometry.{place_path, megacell_path, Steps}
+use Rattle.board.specs.Steps.{beside}
+use Rattle.board.proofs.Geometry.{square_path, Steps}
 use Rattle.board.proofs.Neighbours.{Edge}
 use Rattle.frame.specs.Placing.{steps_kept}
 use Rattle.frame.specs.Frames.{mirrored, flipped}
 
 pub mirrored_twice : (p : Place) → mirrored (mirrored p) ≡ p
 unfolding mirrored
-mirrored_twice p = place_path _ p refl (omega arith)
+mirrored_twice p = square_path _ p refl (omega arith)
 
 pub flipped_twice : (h : Heading) → flipped (flipped h) ≡ h
 unfolding flipped
@@ -29,7 +28,7 @@ unfolding mirrored megacell_of
 mirrored_together p q e =
     let r : p.row / 2 ≡ q.row / 2 = ap (λ (m : Megacell). m.row) e in
     let c : p.column / 2 ≡ q.column / 2 = ap (λ (m : Megacell). m.column) e in
-    megacell_path _ _ r (omega arith)
+    square_path _ _ r (omega arith)
 
 edges : (p : Place) (h : Heading) → Edge h p → Edge (flipped h) (mirrored p)
 unfolding mirrored flipped
@@ -45,5 +44,5 @@ moves p q East e = omega arith
 moves p q South e = omega arith
 moves p q West e = omega arith
 
-pub mirrored_steps : (p : Place) (h : Heading) → ahead (mirrored p) (flipped h) ≡ option_map mirrored (ahead p h)
+pub mirrored_steps : (p : Place) (h : Heading) → beside (mirrored p) (flipped h) ≡ option_map mirrored (beside p h)
 mirrored_steps = steps_kept mirrored flipped edges moves

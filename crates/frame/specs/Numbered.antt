@@ -3,7 +3,7 @@ use Rattle.std.specs.Prelude.{◌≡◌, ℕ, ◌%◌, ◌≤◌, cond, Some, No
 use Rattle.fault.specs.declared.layer.Layer.TheVariants.{Survey}
 use Rattle.fault.specs.Refusals.{Refusal, refused}
 use Rattle.board.specs.declared.heading.Heading.{Heading}
-use Rattle.board.specs.declared.place.Place.{Place}
+use Rattle.board.specs.Squares.{Place}
 use Rattle.board.specs.Headings.{left, right}
 use Rattle.frame.specs.Frames.{mirrored, flipped, quarter, unquarter, times}
 use Rattle.frame.specs.Skipped.{passed}

@@ -4,11 +4,10 @@ use Rattle.std.proofs.Common.{ap, arith}
 use Rattle.std.specs.Option.{option_map}
 use Rattle.board.specs.declared.heading.Heading.{Heading}
 use Rattle.board.specs.declared.heading.Heading.TheVariants.{North, East, South, West}
-use Rattle.board.specs.declared.megacell.Megacell.{Megacell}
-use Rattle.board.specs.declared.place.Place.{Place}
+use Rattle.board.specs.Squares.{Megacell, Place}
 use Rattle.board.specs.Places.{megacell_of}
-use Rattle.board.specs.Steps.{ahead}
-use Rattle.board.proofs.Geometry.{place_path, megacell_path, Steps}
+use Rattle.board.specs.Steps.{beside}
+use Rattle.board.proofs.Geometry.{square_path, Steps}
 use Rattle.board.proofs.Neighbours.{Edge}
 use Rattle.board.specs.Headings.{left, right}
 use Rattle.frame.specs.Placing.{steps_kept}
@@ -16,11 +15,11 @@ use Rattle.frame.specs.Frames.{quarter, unquarter}
 
 pub quarter_undone : (p : Place) → unquarter (quarter p) ≡ p
 unfolding quarter unquarter
-quarter_undone p = place_path _ p (omega arith) refl
+quarter_undone p = square_path _ p (omega arith) refl
 
 pub unquarter_undone : (p : Place) → quarter (unquarter p) ≡ p
 unfolding quarter unquarter
-unquarter_undone p = place_path _ p refl (omega arith)
+unquarter_undone p = square_path _ p refl (omega arith)
 
 pub right_undone : (h : Heading) → left (right h) ≡ h
 unfolding left right
@@ -41,14 +40,14 @@ unfolding quarter megacell_of
 quarter_together p q e =
     let r : p.row / 2 ≡ q.row / 2 = ap (λ (m : Megacell). m.row) e in
     let c : p.column / 2 ≡ q.column / 2 = ap (λ (m : Megacell). m.column) e in
-    megacell_path _ _ c (omega arith)
+    square_path _ _ c (omega arith)
 
 pub unquarter_together : (p q : Place) → megacell_of p ≡ megacell_of q → megacell_of (unquarter p) ≡ megacell_of (unquarter q)
 unfolding unquarter megacell_of
 unquarter_together p q e =
     let r : p.row / 2 ≡ q.row / 2 = ap (λ (m : Megacell). m.row) e in
     let c : p.column / 2 ≡ q.column / 2 = ap (λ (m : Megacell). m.column) e in
-    megacell_path _ _ (omega arith) r
+    square_path _ _ (omega arith) r
 
 edges : (p : Place) (h : Heading) → Edge h p → Edge (right h) (quarter p)
 unfolding quarter right
@@ -64,5 +63,5 @@ moves p q East e = omega arith
 moves p q South e = omega arith
 moves p q West e = omega arith
 
-pub quarter_steps : (p : Place) (h : Heading) → ahead (quarter p) (right h) ≡ option_map quarter (ahead p h)
+pub quarter_steps : (p : Place) (h : Heading) → beside (quarter p) (right h) ≡ option_map quarter (beside p h)
 quarter_steps = steps_kept quarter right edges moves

@@ -3,9 +3,9 @@ use Rattle.std.specs.Prelude.{◌≡◌, ℕ, zero, suc, ◌+◌, Some, None, Op
 use Rattle.std.proofs.Common.{sym, ap, ◌∙◌, add-one}
 use Rattle.std.specs.Option.{option_map}
 use Rattle.board.specs.declared.heading.Heading.{Heading}
-use Rattle.board.specs.declared.place.Place.{Place}
+use Rattle.board.specs.Squares.{Place}
 use Rattle.board.specs.Places.{megacell_of}
-use Rattle.board.specs.Steps.{ahead}
+use Rattle.board.specs.Steps.{beside}
 use Rattle.frame.specs.Frames.{times}
 
 pub times_none : {A : Type 0} (f : A → A) (a : A) → times 0 f a ≡ a
@@ -39,7 +39,7 @@ mapped_same : {A : Type 0} (o : Option A) → o ≡ option_map (λ a. a) o
 mapped_same None = refl
 mapped_same (Some a) = refl
 
-pub times_steps : (n : ℕ) (f : Place → Place) (t : Heading → Heading) → ((p : Place) (h : Heading) → ahead (f p) (t h) ≡ option_map f (ahead p h)) → (p : Place) (h : Heading) → ahead (times n f p) (times n t h) ≡ option_map (times n f) (ahead p h)
+pub times_steps : (n : ℕ) (f : Place → Place) (t : Heading → Heading) → ((p : Place) (h : Heading) → beside (f p) (t h) ≡ option_map f (beside p h)) → (p : Place) (h : Heading) → beside (times n f p) (times n t h) ≡ option_map (times n f) (beside p h)
 unfolding times
-times_steps zero f t s p h = mapped_same (ahead p h)
-times_steps (suc n) f t s p h = s (times n f p) (times n t h) ∙ ap (option_map f) (times_steps n f t s p h) ∙ mapped_twice (times n f) f (ahead p h)
+times_steps zero f t s p h = mapped_same (beside p h)
+times_steps (suc n) f t s p h = s (times n f p) (times n t h) ∙ ap (option_map f) (times_steps n f t s p h) ∙ mapped_twice (times n f) f (beside p h)

@@ -1,6 +1,6 @@
 ghost use Rattle.std.specs.Prelude.{◌≡◌};
 ghost use Rattle.std.specs.Option.{option_map};
-ghost use Rattle.board.specs.Places.{placed};
+ghost use Rattle.board.specs.Squares.{placed};
 ghost use Rattle.frame.specs.Frames.{mirrored, quarter};
 
 /// What the definitions give for two known places: (1, 1) under one quarter turn, and (5, 40) in the mirror.

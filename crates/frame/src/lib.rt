@@ -4,9 +4,9 @@
 ghost use Rattle.std.specs.Prelude.{◌≡◌};
 ghost use Rattle.std.specs.Option.{option_map};
 ghost use Rattle.board.specs.declared.heading.Heading.{Heading};
-ghost use Rattle.board.specs.declared.place.Place.{Place};
+ghost use Rattle.board.specs.Squares.{Place};
 ghost use Rattle.board.specs.Places.{megacell_of};
-ghost use Rattle.board.specs.Steps.{ahead};
+ghost use Rattle.board.specs.Steps.{beside};
 
 pub mod faults;
 pub mod known;
@@ -65,5 +65,5 @@ pub trait Frame {
 
     /// it makes no difference whether a step comes before the frame or, by the turned heading, after it; a step off the
     /// board is one in both
-    ghost steps: { (f : Self) (p : Place) (h : Heading) → ahead (taken f p) (turned f h) ≡ option_map (taken f) (ahead p h) };
+    ghost steps: { (f : Self) (p : Place) (h : Heading) → beside (taken f p) (turned f h) ≡ option_map (taken f) (beside p h) };
 }

@@ -1,8 +1,7 @@
 -- A floor and a field, seen through a frame. They are given by the frame's inverse.
 use Rattle.board.specs.declared.heading.Heading.{Heading}
 use Rattle.board.specs.declared.heading.Heading.TheVariants.{North}
-use Rattle.board.specs.declared.megacell.Megacell.{Megacell}
-use Rattle.board.specs.declared.place.Place.{Place}
+use Rattle.board.specs.Squares.{Megacell, Place}
 use Rattle.board.specs.Places.{megacell_of}
 use Rattle.board.specs.Corners.{subcell}
 use Rattle.board.specs.Floors.{Floor}

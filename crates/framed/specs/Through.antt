@@ -3,15 +3,14 @@ use Rattle.std.proofs.Common.{◌≡◌, Some, None, Option, sym, refl, ap, ◌�
 use Rattle.std.specs.Option.{option_map}
 use Rattle.board.specs.declared.heading.Heading.{Heading}
 use Rattle.board.specs.declared.heading.Heading.TheVariants.{North, East, South, West}
-use Rattle.board.specs.declared.megacell.Megacell.{Megacell}
-use Rattle.board.specs.declared.place.Place.{Place}
+use Rattle.board.specs.Squares.{Megacell, Place}
 use Rattle.board.specs.Headings.{opposite, right}
 use Rattle.board.specs.Places.{megacell_of}
 use Rattle.board.specs.Corners.{subcell, exit}
-use Rattle.board.specs.Steps.{ahead, beside}
+use Rattle.board.specs.Steps.{beside}
 use Rattle.board.specs.Floors.{Floor, SameFromBoth, ClosedAtEdge, Passes}
-use Rattle.board.proofs.Geometry.{megacell_subcell, exit_subcell, Shift, shift, cross_ahead}
-use Rattle.board.proofs.Neighbours.{ahead_back, ahead_inj, none_beside, none_ahead, ahead_beside}
+use Rattle.board.proofs.Geometry.{megacell_subcell, exit_subcell, Steps, some_steps, cross_beside}
+use Rattle.board.proofs.Neighbours.{beside_back, beside_inj, none_of_megacell, none_of_subcell, left_megacell}
 use Rattle.frame.specs.declared.Frame.{Ghosts}
 use Rattle.rover.specs.Drive.{Blocked}
 use Rattle.framed.specs.Seen.{megacell_below, seen_floor}
@@ -24,7 +23,7 @@ pub record Keeps (taken returned : Place → Place) (turned restored : Heading �
   pub redoes : (h : Heading) → turned (restored h) ≡ h
   pub together : (p q : Place) → megacell_of p ≡ megacell_of q → megacell_of (taken p) ≡ megacell_of (taken q)
   pub rejoined : (p q : Place) → megacell_of p ≡ megacell_of q → megacell_of (returned p) ≡ megacell_of (returned q)
-  pub steps : (p : Place) (h : Heading) → ahead (taken p) (turned h) ≡ option_map taken (ahead p h)
+  pub steps : (p : Place) (h : Heading) → beside (taken p) (turned h) ≡ option_map taken (beside p h)
 
 -- a frame keeps them, where each of its laws holds of every frame of its kind
 pub kept : {F : Type 0} (G : Ghosts F)
@@ -34,7 +33,7 @@ pub kept : {F : Type 0} (G : Ghosts F)
     → ((f : F) (h : Heading) → G.turned f (G.restored f h) ≡ h)
     → ((f : F) (p q : Place) → megacell_of p ≡ megacell_of q → megacell_of (G.taken f p) ≡ megacell_of (G.taken f q))
     → ((f : F) (p q : Place) → megacell_of p ≡ megacell_of q → megacell_of (G.returned f p) ≡ megacell_of (G.returned f q))
-    → ((f : F) (p : Place) (h : Heading) → ahead (G.taken f p) (G.turned f h) ≡ option_map (G.taken f) (ahead p h))
+    → ((f : F) (p : Place) (h : Heading) → beside (G.taken f p) (G.turned f h) ≡ option_map (G.taken f) (beside p h))
     → (f : F) → Keeps (G.taken f) (G.returned f) (G.turned f) (G.restored f)
 kept G undone redone undoes redoes together rejoined steps f = record {
   undone = undone f;
@@ -52,28 +51,28 @@ mapped_undone f g e (Some p) = ap Some (e p)
 
 -- no megacell is its own neighbour
 not_own : (h : Heading) (m : Megacell) → beside m h ≡ Some m → ⊥
-not_own h m e = go h (shift h m m e)
+not_own h m e = go h (some_steps h m m e)
   where
-    go : (k : Heading) → Shift k m m → ⊥
+    go : (k : Heading) → Steps k m m → ⊥
     go North s = omega arith
     go East s = omega arith
     go South s = omega arith
     go West s = omega arith
 
 -- the subcell that has a heading for its exit leads to the neighbour there
-cross_subcell : (m n : Megacell) (h : Heading) → beside m h ≡ Some n → ahead (subcell m h) h ≡ Some (subcell n (right h))
+cross_subcell : (m n : Megacell) (h : Heading) → beside m h ≡ Some n → beside (subcell m h) h ≡ Some (subcell n (right h))
 cross_subcell m n h e =
     let x = exit_subcell m h in
     let c : beside (megacell_of (subcell m h)) (exit (subcell m h)) ≡ Some n = ap (λ (z : Megacell). beside z (exit (subcell m h))) (megacell_subcell m h) ∙ ap (beside m) x ∙ e in
-    ap (ahead (subcell m h)) (sym x) ∙ cross_ahead (subcell m h) n c ∙ ap (λ (z : Heading). Some (subcell n (right z))) x
+    ap (beside (subcell m h)) (sym x) ∙ cross_beside (subcell m h) n c ∙ ap (λ (z : Heading). Some (subcell n (right z))) x
 
 module _ (taken returned : Place → Place) (turned restored : Heading → Heading) (keeps : Keeps taken returned turned restored) where
   -- the inverse keeps stepping too
-  steps_below : (p : Place) (h : Heading) → ahead (returned p) (restored h) ≡ option_map returned (ahead p h)
+  steps_below : (p : Place) (h : Heading) → beside (returned p) (restored h) ≡ option_map returned (beside p h)
   steps_below p h =
-      let up : ahead p h ≡ option_map taken (ahead (returned p) (restored h)) =
-      ap (λ (q : Place). ahead q h) (sym (keeps.redone p)) ∙ ap (ahead (taken (returned p))) (sym (keeps.redoes h)) ∙ keeps.steps (returned p) (restored h) in
-      sym (ap (option_map returned) up ∙ mapped_undone taken returned keeps.undone (ahead (returned p) (restored h)))
+      let up : beside p h ≡ option_map taken (beside (returned p) (restored h)) =
+      ap (λ (q : Place). beside q h) (sym (keeps.redone p)) ∙ ap (beside (taken (returned p))) (sym (keeps.redoes h)) ∙ keeps.steps (returned p) (restored h) in
+      sym (ap (option_map returned) up ∙ mapped_undone taken returned keeps.undone (beside (returned p) (restored h)))
 
   -- any subcell of a megacell tells the megacell below
   below : (p : Place) (m : Megacell) → megacell_of p ≡ m → megacell_of (returned p) ≡ megacell_below returned m
@@ -89,7 +88,7 @@ module _ (taken returned : Place → Place) (turned restored : Heading → Headi
 
   pub pass_seen : (floor : Floor) (p q : Place) (h k : Heading) → k ≡ restored h → Passes floor p k q → Passes (seen_floor returned restored floor) (taken p) h (taken q)
   pass_seen floor p q h k e w = record {
-    next = ap (ahead (taken p)) (sym (keeps.redoes h) ∙ ap turned (sym e)) ∙ keeps.steps p k ∙ ap (option_map taken) w.next;
+    next = ap (beside (taken p)) (sym (keeps.redoes h) ∙ ap turned (sym e)) ∙ keeps.steps p k ∙ ap (option_map taken) w.next;
     way = elim w.way [
       | inl s ↦ inl (keeps.together q p s)
       | inr o ↦ inr (sym (side_seen floor p h) ∙ ap (floor (megacell_of p)) (sym e) ∙ o)
@@ -99,7 +98,7 @@ module _ (taken returned : Place → Place) (turned restored : Heading → Headi
   pub block_seen : (floor : Floor) (p : Place) (h k : Heading) → k ≡ restored h → Blocked floor p k → Blocked (seen_floor returned restored floor) (taken p) h
   block_seen floor p h k e shut q w =
       shut (returned q) (record {
-        next = ap (λ (x : Place). ahead x k) (sym (keeps.undone p)) ∙ ap (ahead (returned (taken p))) e ∙ steps_below (taken p) h ∙ ap (option_map returned) w.next;
+        next = ap (λ (x : Place). beside x k) (sym (keeps.undone p)) ∙ ap (beside (returned (taken p))) e ∙ steps_below (taken p) h ∙ ap (option_map returned) w.next;
         way = elim w.way [
           | inl s ↦ inl (keeps.rejoined q (taken p) s ∙ ap megacell_of (keeps.undone p))
           | inr o ↦ inr (ap (floor (megacell_of p)) e ∙ side_seen floor p h ∙ o)
@@ -113,14 +112,14 @@ module _ (taken returned : Place → Place) (turned restored : Heading → Headi
       let q : Place = subcell n (right h) in
       let pm : megacell_of p ≡ m = megacell_subcell m h in
       let qn : megacell_of q ≡ n = megacell_subcell n (right h) in
-      let over : ahead p h ≡ Some q = cross_subcell m n h e in
-      let step : ahead (returned p) (restored h) ≡ Some (returned q) = steps_below p h ∙ ap (option_map returned) over in
-      let back : ahead (returned q) (restored (opposite h)) ≡ Some (returned p) = steps_below q (opposite h) ∙ ap (option_map returned) (ahead_back h p q over) in
+      let over : beside p h ≡ Some q = cross_subcell m n h e in
+      let step : beside (returned p) (restored h) ≡ Some (returned q) = steps_below p h ∙ ap (option_map returned) over in
+      let back : beside (returned q) (restored (opposite h)) ≡ Some (returned p) = steps_below q (opposite h) ∙ ap (option_map returned) (beside_back h p q over) in
       let apart : megacell_of (returned q) ≡ megacell_of (returned p) → ⊥ = λ s.
       let same : megacell_of q ≡ megacell_of p = ap megacell_of (sym (keeps.redone q)) ∙ keeps.together (returned q) (returned p) s ∙ ap megacell_of (keeps.redone p) in
       not_own h m (e ∙ ap Some (sym qn ∙ same ∙ pm)) in (
-        ap (λ (x : Megacell). beside x (restored h)) (sym (below p m pm)) ∙ ahead_beside (restored h) (returned p) (returned q) step apart ∙ ap Some (below q n qn),
-        ahead_inj (restored (opposite h)) (opposite (restored h)) (returned q) (returned p) back (ahead_back (restored h) (returned p) (returned q) step),
+        ap (λ (x : Megacell). beside x (restored h)) (sym (below p m pm)) ∙ left_megacell (restored h) (returned p) (returned q) step apart ∙ ap Some (below q n qn),
+        beside_inj (restored (opposite h)) (opposite (restored h)) (returned q) (returned p) back (beside_back (restored h) (returned p) (returned q) step),
       )
 
   pub sides_seen : (floor : Floor) → SameFromBoth floor → SameFromBoth (seen_floor returned restored floor)
@@ -130,6 +129,6 @@ module _ (taken returned : Place → Place) (turned restored : Heading → Headi
 
   pub edge_seen : (floor : Floor) → ClosedAtEdge floor → ClosedAtEdge (seen_floor returned restored floor)
   edge_seen floor edge m h e =
-      let off : ahead (returned (subcell m h)) (restored h) ≡ None = steps_below (subcell m h) h ∙ ap (option_map returned) (none_ahead h m e) in
+      let off : beside (returned (subcell m h)) (restored h) ≡ None = steps_below (subcell m h) h ∙ ap (option_map returned) (none_of_subcell h m e) in
       edge (megacell_below returned m) (restored h)
-      (ap (λ (x : Megacell). beside x (restored h)) (sym (below (subcell m h) m (megacell_subcell m h))) ∙ none_beside (restored h) (returned (subcell m h)) off)
+      (ap (λ (x : Megacell). beside x (restored h)) (sym (below (subcell m h) m (megacell_subcell m h))) ∙ none_of_megacell (restored h) (returned (subcell m h)) off)

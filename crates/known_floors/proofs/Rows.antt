@@ -3,14 +3,14 @@ use Rattle.std.proofs.Common.{◌≡◌, ℕ, ◌<◌, true, cond, ltb, List, No
 use Rattle.std.specs.Fmt.{digits}
 use Rattle.firsts.specs.First.{first}
 use Rattle.firsts.proofs.Firsts.{first_here}
-use Rattle.board.specs.declared.place.Place.{Place}
+use Rattle.board.specs.Squares.{Place, placed, celled, same_square}
 use Rattle.board.specs.Counting.{bit, many}
 use Rattle.board.specs.Corners.{exit_of, corner_by, corner_of, exit, subcell}
 use Rattle.board.specs.Floors.{Floor}
 use Rattle.board.specs.Headings.{left, opposite, letter}
-use Rattle.board.specs.Places.{placed, celled, same_place, same_megacell, megacell_of}
-use Rattle.board.specs.Steps.{ahead, beside, step}
-use Rattle.board.proofs.Geometry.{placed_at}
+use Rattle.board.specs.Places.{megacell_of}
+use Rattle.board.specs.Steps.{beside, step}
+use Rattle.board.proofs.Geometry.{squared_at}
 use Rattle.frame.specs.declared.faults.FrameFault.TheVariants.{Unknown}
 use Rattle.frame.specs.Frames.{mirrored, flipped, quarter, unquarter, times}
 use Rattle.framed.specs.Seen.{megacell_below}
@@ -37,7 +37,7 @@ driven_home floor s n text before ends few e = ap (λ o. Sheet (sheet_after floo
 
 -- all that a survey of a map computes with, to be named on an `unfolding` line
 unfoldable whole_survey : ℕ
-unfolding left opposite letter placed celled same_place same_megacell megacell_of exit_of corner_by corner_of exit subcell ahead beside step bit many here old parent home walk entered is_parent absent_or_old ruled next_move tour tour_looks letters first mirrored flipped quarter unquarter times megacell_below digit_of tabled megacell_at floor_of old_count lined digits
+unfolding left opposite letter placed celled same_square same_square megacell_of exit_of corner_by corner_of exit subcell beside beside step bit many here old parent home walk entered is_parent absent_or_old ruled next_move tour tour_looks letters first mirrored flipped quarter unquarter times megacell_below digit_of tabled megacell_at floor_of old_count lined digits
 whole_survey = 0
 
 -- so does the survey of a map that begins with its S
@@ -55,6 +55,6 @@ each_given =
     let seen = map_home single 4 4 _ refl refl refl refl (lit< tt) refl in
     let two = map_home double 0 8 _ refl refl refl refl (lit< tt) refl in
     let three = map_home corner 0 12 _ refl refl refl refl (lit< tt) refl in
-    let turned = sym (placed_at 1 62 _ refl refl) in
-    let mirror = sym (placed_at 5 23 _ refl refl) in
+    let turned = sym (squared_at 1 62 _ refl refl) in
+    let mirror = sym (squared_at 5 23 _ refl refl) in
     (one, (seen, (two, (three, (turned, (mirror, (refl, (refl, (refl, (refl, (refl, (refl, (refl, tt)))))))))))))

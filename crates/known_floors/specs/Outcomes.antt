@@ -1,6 +1,6 @@
 -- What the written rules make of a map or a log: one survey of it, as a function of its bytes.
 use Rattle.std.specs.Prelude.{ℕ, cond, List, [], Some, None, Ok, Err, Option, Result, nat_lt}
-use Rattle.board.specs.declared.place.Place.{Place}
+use Rattle.board.specs.Squares.{Place}
 use Rattle.board.specs.Floors.{Floor}
 use Rattle.frame.specs.declared.faults.FrameFault.TheVariants.{Unknown}
 use Rattle.frame.specs.Numbered.{frame_of, place_seen}

@@ -2,7 +2,7 @@
 use Rattle.std.specs.Prelude.{◌≡◌, ℕ, List, [], ◌∷◌, ◌++◌, codes}
 use Rattle.std.specs.List.{flat_map}
 use Rattle.std.specs.Option.{option_map}
-use Rattle.board.specs.Places.{placed}
+use Rattle.board.specs.Squares.{placed}
 use Rattle.frame.specs.Numbered.{frame_of, place_seen}
 use Rattle.known_floors.specs.Outcomes.{Outcome, Sheet, Refused, surveyed_map, surveyed_log}
 

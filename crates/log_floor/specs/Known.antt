@@ -2,8 +2,7 @@
 use Rattle.std.specs.Prelude.{◌≡◌, ℕ, true, false, T, List, [], ◌∷◌, nat_lt}
 use Rattle.std.proofs.Common.{ltb→lt}
 use Rattle.board.specs.declared.heading.Heading.TheVariants.{North, East, South, West}
-use Rattle.board.specs.declared.megacell.Megacell.{Megacell}
-use Rattle.board.specs.declared.place.Place.{Place}
+use Rattle.board.specs.Squares.{Megacell, Place}
 use Rattle.log_floor.specs.Told.{floor_of_log, field_of_log}
 
 abbrev pub cell : (row column : ℕ) → T (nat_lt row 32) → T (nat_lt column 32) → Megacell

@@ -3,7 +3,7 @@ use Rattle.std.specs.Prelude.{◌≡◌, ◌&&◌, Option, refl}
 use Rattle.std.proofs.Common.{sym, ◌∙◌, ap}
 use Rattle.board.specs.declared.heading.Heading.{Heading}
 use Rattle.board.specs.declared.heading.Heading.TheVariants.{North, East, South, West}
-use Rattle.board.specs.declared.megacell.Megacell.{Megacell}
+use Rattle.board.specs.Squares.{Megacell}
 use Rattle.board.specs.Headings.{opposite}
 use Rattle.board.specs.Floors.{SameFromBoth, ClosedAtEdge}
 use Rattle.board.proofs.Geometry.{beside_back}

@@ -2,8 +2,7 @@
 use Rattle.std.specs.Prelude.{ℕ, Bool, false, ◌&&◌, List, Some, None, Option}
 use Rattle.board.specs.declared.corner.Corner.{Corner}
 use Rattle.board.specs.declared.heading.Heading.{Heading}
-use Rattle.board.specs.declared.megacell.Megacell.{Megacell}
-use Rattle.board.specs.declared.place.Place.{Place}
+use Rattle.board.specs.Squares.{Megacell, Place}
 use Rattle.board.specs.Corners.{corner_of}
 use Rattle.board.specs.Floors.{Floor}
 use Rattle.board.specs.Headings.{opposite}

@@ -1,5 +1,6 @@
 ghost use Rattle.std.specs.Prelude.{◌≡◌, ◌||◌};
-ghost use Rattle.board.specs.Places.{megacell_of, same_megacell};
+ghost use Rattle.board.specs.Squares.{same_square};
+ghost use Rattle.board.specs.Places.{megacell_of};
 ghost use Rattle.log_floor.specs.Told.{told_open, told_beside, floor_of, field_of};
 
 use board::heading::Heading;
@@ -36,7 +37,7 @@ pub(crate) fn is_open<L: Records>(log: &L, megacell: Megacell, heading: Heading)
 
 /// Whether a step leads from a place to the next one at a heading.
 pub(crate) fn is_passable<L: Records>(log: &L, place: Place, next: Place, heading: Heading) -> bool
-    ensures { result ≡ (same_megacell (megacell_of next) (megacell_of place) || floor_of (L.Records.told log.now) (megacell_of place) heading) }
+    ensures { result ≡ (same_square (megacell_of next) (megacell_of place) || floor_of (L.Records.told log.now) (megacell_of place) heading) }
 {
     next.megacell() == place.megacell() || is_open(log, place.megacell(), heading)
 }

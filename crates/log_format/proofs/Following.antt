@@ -1,9 +1,9 @@
 -- What acceptance tells of the chain, for a lookup along it.
 use Rattle.std.proofs.Common.{◌≡◌, ℕ, ◌+◌, ◌-◌, ◌<◌, ◌≤◌, Bool, true, false, cond, eqb, List, is_some, Some, None, Ok, Err, Option, Result, sym, refl, ap, ◌∙◌, subst, inl, inr, add-one, arith}
 use Rattle.std.proofs.lemmas.Bool.{cases_lt, not-false, eq-eqb, ne_eqb, eqb-true, eqb-false, both_ways}
-use Rattle.board.specs.declared.megacell.Megacell.{Megacell}
-use Rattle.board.specs.Places.{megacell_of, same_megacell}
-use Rattle.board.proofs.Geometry.{same_megacell_refl}
+use Rattle.board.specs.Squares.{Megacell, same_square}
+use Rattle.board.specs.Places.{megacell_of}
+use Rattle.board.proofs.Geometry.{same_square_refl}
 use Rattle.firsts.specs.First.{first}
 use Rattle.firsts.proofs.Firsts.{first_zero, first_more, first_here, first_some, first_none, first_none_at}
 use Rattle.log_record.specs.declared.faults.LogFault.{LogFault}
@@ -113,7 +113,7 @@ apart b i j h l e =
     let c = before_stop b j l in
     let f = first_none_at (comes_to b c.to.megacell) j i (some_none _ c.new) h in
     let s : record_at b (index b i) ≡ Some c.to = subst (λ k. record_at b k ≡ Some c.to) (sym e) c.at in
-    both_ways _ f (ap (λ o. tells_of o c.to.megacell) s ∙ same_megacell_refl c.to.megacell)
+    both_ways _ f (ap (λ o. tells_of o c.to.megacell) s ∙ same_square_refl c.to.megacell)
 
 step_before : (b : List ℕ) (j : ℕ) → j < stop b → step_at b (index b j) ≡ j
 unfolding step_at
@@ -145,14 +145,14 @@ found_none b at m w e =
 before : (b : List ℕ) (at : ℕ) (m : Megacell) (r : Record) (w : Reaching b at m) → record_at b at ≡ Some r → w.step < stop b
 before b at m r w e = not_stop b w.step r w.accepted w.near (subst (λ k. record_at b k ≡ Some r) w.goes e)
 
-pub found_here : (b : List ℕ) (at : ℕ) (m : Megacell) (r : Record) → Reaching b at m → record_at b at ≡ Some r → same_megacell r.megacell m ≡ true → Some r ≡ record_of b m
+pub found_here : (b : List ℕ) (at : ℕ) (m : Megacell) (r : Record) → Reaching b at m → record_at b at ≡ Some r → same_square r.megacell m ≡ true → Some r ≡ record_of b m
 unfolding record_of
 found_here b at m r w e t =
     let f : record_at b (index b w.step) ≡ Some r = subst (λ k. record_at b k ≡ Some r) w.goes e in
     let k = first_here (comes_to b m) w.step (stop b) w.none (ap (λ o. tells_of o m) f ∙ t) (before b at m r w e) in
     sym (ap (record_in b) k ∙ f)
 
-pub found_later : (b : List ℕ) (at : ℕ) (m : Megacell) (r : Record) → Reaching b at m → record_at b at ≡ Some r → same_megacell r.megacell m ≡ false → Reaching b r.next m
+pub found_later : (b : List ℕ) (at : ℕ) (m : Megacell) (r : Record) → Reaching b at m → record_at b at ≡ Some r → same_square r.megacell m ≡ false → Reaching b r.next m
 found_later b at m r w e t =
     let f : record_at b (index b w.step) ≡ Some r = subst (λ k. record_at b k ≡ Some r) w.goes e in
     let l = before b at m r w e in
@@ -165,7 +165,7 @@ found_later b at m r w e t =
       none = first_more (comes_to b m) w.step w.none (ap (λ o. tells_of o m) f ∙ t);
     }
 
-pub nearer : (b : List ℕ) (at : ℕ) (m : Megacell) (r : Record) → Reaching b at m → record_at b at ≡ Some r → same_megacell r.megacell m ≡ false → stop b - step_at b r.next < stop b - step_at b at
+pub nearer : (b : List ℕ) (at : ℕ) (m : Megacell) (r : Record) → Reaching b at m → record_at b at ≡ Some r → same_square r.megacell m ≡ false → stop b - step_at b r.next < stop b - step_at b at
 unfolding found_later
 nearer b at m r w e t =
     let v = found_later b at m r w e t in

@@ -1,9 +1,9 @@
 -- A log is accepted exactly when it is one, and tells of the records of its chain.
 use Rattle.std.proofs.Common.{◌≡◌, ℕ, zero, suc, ◌+◌, ◌<◌, ◌≤◌, Bool, true, false, cond, not, List, set, replicate, is_some, Some, None, Ok, Option, sym, refl, ap, ◌∙◌, subst, add-one, arith}
 use Rattle.std.proofs.lemmas.Bool.{both_ways}
-use Rattle.board.specs.declared.megacell.Megacell.{Megacell}
-use Rattle.board.specs.Places.{megacell_of, number_of, same_megacell}
-use Rattle.board.proofs.Geometry.{same_megacell_true, same_megacell_refl}
+use Rattle.board.specs.Squares.{Megacell, number_of, same_square}
+use Rattle.board.specs.Places.{megacell_of}
+use Rattle.board.proofs.Geometry.{same_square_true, same_square_refl}
 use Rattle.firsts.specs.First.{first}
 use Rattle.firsts.proofs.Firsts.{first_here, first_some, first_none, first_none_at}
 use Rattle.log_record.specs.declared.faults.LogFault.TheVariants.{StartUntold}
@@ -36,11 +36,11 @@ at_some P n j h t = at_some_by P n j (first P n) refl h t
 -- A record that tells of a megacell.
 
 tells_by : (o : Option Record) (m : Megacell) → tells_of o m ≡ true → (r : Record) × (o ≡ Some r) × (r.megacell ≡ m)
-tells_by (Some r) m t = (r, refl, same_megacell_true r.megacell m t)
+tells_by (Some r) m t = (r, refl, same_square_true r.megacell m t)
 tells_by None m t = absurd (both_ways false refl t)
 
 tells : (b : List ℕ) (j : ℕ) (r : Record) (m : Megacell) → Comes b j r → r.megacell ≡ m → comes_to b m j ≡ true
-tells b j r m c e = ap (λ o. tells_of o m) c ∙ subst (λ x. same_megacell r.megacell x ≡ true) e (same_megacell_refl r.megacell)
+tells b j r m c e = ap (λ o. tells_of o m) c ∙ subst (λ x. same_square r.megacell x ≡ true) e (same_square_refl r.megacell)
 
 one_record_lem : (o : Option Record) (r s : Record) → o ≡ Some r → o ≡ Some s → r ≡ s
 one_record_lem o r s e f = cc
@@ -83,10 +83,10 @@ fresh b long k j r h c =
     ap is_some (first_none (comes_to b r.megacell) j (λ i l. apart_at i l (k.records i (omega arith))))
   where
     apart_at : (i : ℕ) → i < j → (s : Record) × Comes b i s → comes_to b r.megacell i ≡ false
-    apart_at i l s = unlike (same_megacell s.0.megacell r.megacell) refl
+    apart_at i l s = unlike (same_square s.0.megacell r.megacell) refl
       where
-        unlike : (t : Bool) → same_megacell s.0.megacell r.megacell ≡ t → comes_to b r.megacell i ≡ false
-        unlike true e = absurd (k.apart i j s.0 r l h s.1 c (same_megacell_true _ _ e))
+        unlike : (t : Bool) → same_square s.0.megacell r.megacell ≡ t → comes_to b r.megacell i ≡ false
+        unlike true e = absurd (k.apart i j s.0 r l h s.1 c (same_square_true _ _ e))
         unlike false e = ap (λ o. tells_of o r.megacell) s.1 ∙ e
 
 reach : (b : List ℕ) (h : Header) (long : ℕ) → header_of b ≡ Ok h → Chain b long → (j : ℕ) → j ≤ long → (seen : List Bool) × Walked b j (holder b j) (index b j) seen

@@ -3,9 +3,9 @@ use Rattle.std.proofs.Common.{◌≡◌, ℕ, zero, suc, ◌+◌, ◌<◌, ◌�
 use lib.ListN.{length-replicate, get_or-replicate}
 use Rattle.std.proofs.lemmas.List.Sums.{sum_by-set, sum_by-cons}
 use Rattle.std.proofs.lemmas.Bool.{cases_lt, cases_Bool, ltb-false, le-ltb, ne_eqb, eq-eqb, and_from, both_ways}
-use Rattle.board.specs.declared.megacell.Megacell.{Megacell}
-use Rattle.board.specs.Places.{megacell_of, number_of, same_megacell}
-use Rattle.board.proofs.Geometry.{same_megacell_true, same_megacell_refl}
+use Rattle.board.specs.Squares.{Megacell, number_of, same_square}
+use Rattle.board.specs.Places.{megacell_of}
+use Rattle.board.proofs.Geometry.{same_square_true, same_square_refl}
 use Rattle.firsts.specs.First.{first, or_else}
 use Rattle.firsts.proofs.Firsts.{first_zero, first_more, first_here}
 use Rattle.log_record.specs.declared.faults.LogFault.{LogFault}
@@ -148,8 +148,8 @@ visited_more : (b : List ℕ) (m : Megacell) (j : ℕ) → visited b m (suc j) �
 unfolding first
 visited_more b m j = some_more (first (comes_to b m) j) (comes_to b m j) j
 
-one_number : (m n : Megacell) → number_of m ≡ number_of n → same_megacell m n ≡ true
-unfolding same_megacell
+one_number : (m n : Megacell) → number_of m ≡ number_of n → same_square m n ≡ true
+unfolding same_square
 one_number m n e = and_from _ _ (eq-eqb m.row n.row (omega (arith, m.columns, n.columns))) (eq-eqb m.column n.column (omega (arith, m.columns, n.columns)))
 
 or_true : (t : Bool) → true ≡ t || true
@@ -160,11 +160,11 @@ or_false : (t : Bool) → t ≡ t || false
 or_false true = refl
 or_false false = refl
 
-marked : (seen : List Bool) (c m : Megacell) (t : Bool) → length seen ≡ 1024 → get_or seen (number_of m) false ≡ t → get_or (set seen (number_of c) true) (number_of m) false ≡ t || same_megacell c m
+marked : (seen : List Bool) (c m : Megacell) (t : Bool) → length seen ≡ 1024 → get_or seen (number_of m) false ≡ t → get_or (set seen (number_of c) true) (number_of m) false ≡ t || same_square c m
 marked seen c m t l e =
-    elim (cases_Bool (same_megacell c m)) [
-      | inl s ↦ subst (λ x. get_or (set seen (number_of c) true) (number_of x) false ≡ t || same_megacell c x) (same_megacell_true c m s)
-          (get_or-set_same seen (number_of c) true false (omega (arith, c.rows, c.columns)) ∙ or_true t ∙ sym (ap (λ x. t || x) (same_megacell_refl c)))
+    elim (cases_Bool (same_square c m)) [
+      | inl s ↦ subst (λ x. get_or (set seen (number_of c) true) (number_of x) false ≡ t || same_square c x) (same_square_true c m s)
+          (get_or-set_same seen (number_of c) true false (omega (arith, c.rows, c.columns)) ∙ or_true t ∙ sym (ap (λ x. t || x) (same_square_refl c)))
       | inr s ↦ get_or-set_other seen (number_of c) (number_of m) true false (λ q. both_ways _ s (one_number c m (sym q))) ∙ e ∙ or_false t ∙ sym (ap (λ x. t || x) s)
     ]
 

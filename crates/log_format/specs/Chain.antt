@@ -1,7 +1,6 @@
 -- The chain of a log: the records in the order in which each names the next, from the one that the header names.
 use Rattle.std.specs.Prelude.{◌≡◌, ℕ, zero, suc, Bool, true, false, cond, not, List, is_some, Some, None, Ok, Err, Option, Result, ◌==◌, nat_lt}
-use Rattle.board.specs.declared.megacell.Megacell.{Megacell}
-use Rattle.board.specs.Places.{same_megacell}
+use Rattle.board.specs.Squares.{Megacell, same_square}
 use Rattle.firsts.specs.First.{first}
 use Rattle.log_record.specs.declared.faults.LogFault.{LogFault}
 use Rattle.log_record.specs.declared.faults.LogFault.TheVariants.{IndexBeyond, BadRecord, SecondRecord}
@@ -27,7 +26,7 @@ abbrev pub index : List ℕ → ℕ → ℕ
 index b j = held b (holder b j)
 
 abbrev pub tells_of : Option Record → Megacell → Bool
-tells_of (Some r) m = same_megacell r.megacell m
+tells_of (Some r) m = same_square r.megacell m
 tells_of None m = false
 
 -- step j comes to a record of a megacell

@@ -1,6 +1,6 @@
 -- Which bytes are a log, and what a log tells.
 use Rattle.std.specs.Prelude.{◌≡◌, ℕ, ◌≤◌, Bool, true, false, cond, List, Some, None, Ok, Err, Option, Result}
-use Rattle.board.specs.declared.megacell.Megacell.{Megacell}
+use Rattle.board.specs.Squares.{Megacell}
 use Rattle.board.specs.Places.{megacell_of}
 use Rattle.firsts.specs.First.{first}
 use Rattle.log_record.specs.declared.faults.LogFault.{LogFault}

@@ -1,6 +1,6 @@
 -- What it means that a log is accepted, without the order of the checks.
 use Rattle.std.specs.Prelude.{◌≡◌, ℕ, ◌<◌, ◌≤◌, true, List, Some, Ok, ◌≢◌}
-use Rattle.board.specs.declared.megacell.Megacell.{Megacell}
+use Rattle.board.specs.Squares.{Megacell}
 use Rattle.board.specs.Places.{megacell_of}
 use Rattle.log_record.specs.declared.header.Header.{Header}
 use Rattle.log_record.specs.declared.record.Record.{Record}

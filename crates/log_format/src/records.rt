@@ -1,6 +1,5 @@
 ghost use Rattle.std.specs.Prelude.{◌≡◌, Some, Option};
-ghost use Rattle.board.specs.declared.megacell.Megacell.{Megacell};
-ghost use Rattle.board.specs.declared.place.Place.{Place};
+ghost use Rattle.board.specs.Squares.{Megacell, Place};
 ghost use Rattle.log_record.specs.declared.record.Record.{Record};
 
 use board::megacell::Megacell;

@@ -1,5 +1,6 @@
 ghost use Rattle.std.specs.Prelude.{◌≡◌, true, false, Some, None, Ok, MatchResult, slice_index_or, slice_set};
-ghost use Rattle.board.specs.Places.{megacell_of, number_of};
+ghost use Rattle.board.specs.Squares.{number_of};
+ghost use Rattle.board.specs.Places.{megacell_of};
 ghost use Rattle.log_record.specs.declared.faults.LogFault.TheVariants.{SecondRecord};
 ghost use Rattle.log_record.specs.Layout.{header_of};
 ghost use Rattle.log_format.specs.Chain.{led, stops, stop};

@@ -1,6 +1,6 @@
 -- What a header that is read tells of the bytes.
 use Rattle.std.proofs.Common.{◌≡◌, ℕ, Bool, true, false, cond, List, Some, None, Ok, Err, Option, sym, ap}
-use Rattle.board.specs.declared.place.Place.{Place}
+use Rattle.board.specs.Squares.{Place}
 use Rattle.log_record.specs.declared.faults.LogFault.TheVariants.{WrongLength}
 use Rattle.log_record.specs.declared.header.Header.{Header}
 use Rattle.log_record.specs.Layout.{two, whole, start_of, header_by, header_of}

@@ -1,8 +1,6 @@
 -- The layout of a log, byte by byte: a header of 8 bytes, and records of 16, numbered from 1.
 use Rattle.std.specs.Prelude.{ℕ, zero, suc, ◌+◌, ◌*◌, Bool, true, false, cond, ◌&&◌, List, length, take, drop, Some, None, Ok, Err, Option, Result, ◌==◌, nat_le, slice_index}
-use Rattle.board.specs.declared.megacell.Megacell.{Megacell}
-use Rattle.board.specs.declared.place.Place.{Place}
-use Rattle.board.specs.Places.{placed, celled}
+use Rattle.board.specs.Squares.{Megacell, Place, placed, celled}
 use Rattle.log_record.specs.declared.faults.LogFault.{LogFault}
 use Rattle.log_record.specs.declared.faults.LogFault.TheVariants.{WrongLength, BadHeader}
 use Rattle.log_record.specs.declared.header.Header.{Header}

@@ -2,9 +2,8 @@
 use Rattle.std.proofs.Common.{◌≡◌, ℕ, ◌+◌, ◌*◌, ◌/◌, ◌%◌, ◌<◌, ◌≤◌, leb, List, length, get_or, Some, None, sym, refl, ap, ◌∙◌, subst, inl, inr, arith}
 use Rattle.std.proofs.lemmas.Bool.{both_ways, and_parts, and_from, eqb-true, eq-eqb, le-leb, cases_order}
 use Rattle.std.proofs.lemmas.Nat.{div-add-mod'}
-use Rattle.board.specs.declared.megacell.Megacell.{Megacell}
-use Rattle.board.specs.Places.{celled, number_of}
-use Rattle.board.proofs.Geometry.{celled_at, celled_some}
+use Rattle.board.specs.Squares.{Megacell, celled, number_of}
+use Rattle.board.proofs.Geometry.{squared_at, squared_some}
 use Rattle.firsts.specs.First.{first}
 use Rattle.firsts.proofs.Firsts.{first_some, first_none_at}
 use Rattle.map_format.specs.Bytes.{stands, first_from}
@@ -21,7 +20,7 @@ pub on_board : (r c : ℕ) → r < 32 → c < 32 → celled r c ≡ Some (megace
 unfolding megacell_at
 on_board r c h k =
     let m : Megacell = record { row = r; column = c; rows = h; columns = k } in
-    let e : celled r c ≡ Some m = celled_at r c m refl refl in
+    let e : celled r c ≡ Some m = squared_at r c m refl refl in
     e ∙ ap (λ o. Some (or_north_west o)) (sym e)
 
 each : (m : List ℕ) (n : Megacell) → get_or (cells_of m (width m)) (number_of n) Blocked ≡ cell_in m (width m) n.row n.column
@@ -55,7 +54,7 @@ inside m s w a = let at = start_at m s a.one in start_inside m s w a.is_width a.
 lies : (m : List ℕ) (s : ℕ) → Accepted m s (width m) → LiesOn m (drawn m s)
 lies m s a =
     let k = inside m s (width m) a in
-    let at = celled_some _ _ _ (on_board (s / (width m + 1)) (s % (width m + 1)) k.0 (omega arith)) in
+    let at = squared_some _ _ _ (on_board (s / (width m + 1)) (s % (width m + 1)) k.0 (omega arith)) in
     let split : s / (width m + 1) * (width m + 1) + s % (width m + 1) ≡ s = div-add-mod' s (width m + 1) in
     let there : row_at m (drawn m s).start.row + (drawn m s).start.column ≡ s =
     ap (λ r. row_at m r + (drawn m s).start.column) at.0 ∙ ap (λ c. row_at m (s / (width m + 1)) + c) at.1 ∙ split in

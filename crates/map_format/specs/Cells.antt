@@ -2,8 +2,7 @@
 use Rattle.std.specs.Prelude.{ℕ, ◌+◌, ◌-◌, ◌*◌, ◌/◌, ◌%◌, ◌<◌, ◌≤◌, Bool, true, false, cond, ◌&&◌, T, List, map, length, Some, None, Option, ◌==◌, nat_le, nat_lt, slice_index, slice_index_or}
 use Rattle.std.proofs.Common.{arith, leb→le}
 use Rattle.std.specs.List.{range_with_len}
-use Rattle.board.specs.declared.megacell.Megacell.{Megacell}
-use Rattle.board.specs.Places.{number_of, celled}
+use Rattle.board.specs.Squares.{Megacell, number_of, celled}
 use Rattle.map_format.specs.declared.digit.Digit.{Digit}
 use Rattle.map_format.specs.declared.cell.Cell.{Cell}
 use Rattle.map_format.specs.declared.cell.Cell.TheVariants.{Blocked, Free, Lamp}

@@ -1,6 +1,6 @@
 -- That rows and columns are where a reader of the text sees them.
 use Rattle.std.specs.Prelude.{◌≡◌, ℕ, ◌+◌, ◌-◌, ◌<◌, ◌≤◌, false, ◌⊎◌, List, length, slice_index, slice_index_or}
-use Rattle.board.specs.declared.megacell.Megacell.{Megacell}
+use Rattle.board.specs.Squares.{Megacell}
 use Rattle.map_format.specs.declared.drawing.Drawing.{Drawing}
 use Rattle.map_format.specs.Rows.{width, row_at, bad_row}
 use Rattle.map_format.specs.Cells.{cell_in, cell_at}

@@ -1,6 +1,6 @@
 -- What is said of a map, in two numbers.
 use Rattle.std.specs.Prelude.{ℕ, Ok, Err, Result}
-use Rattle.board.specs.Places.{number_of}
+use Rattle.board.specs.Squares.{number_of}
 use Rattle.map_format.specs.declared.drawing.Drawing.{Drawing}
 use Rattle.map_format.specs.declared.faults.MapFault.{MapFault}
 use Rattle.map_format.specs.Faults.{told}

@@ -3,7 +3,7 @@ use Rattle.std.specs.Prelude.{ℕ, ◌+◌, min}
 use Rattle.fault.specs.declared.layer.Layer.TheVariants.{Rover}
 use Rattle.fault.specs.Refusals.{Refusal, refused}
 use Rattle.board.specs.declared.heading.Heading.{Heading}
-use Rattle.board.specs.declared.place.Place.{Place}
+use Rattle.board.specs.Squares.{Place}
 use Rattle.board.specs.Floors.{Floor, Passes}
 use Rattle.rover.specs.declared.faults.RoverFault.{RoverFault}
 use Rattle.rover.specs.declared.faults.RoverFault.TheVariants.{Closed}

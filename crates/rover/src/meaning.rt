@@ -1,5 +1,5 @@
 ghost use Rattle.std.specs.Prelude.{◌≡◌, ℕ, MatchResult};
-ghost use Rattle.board.specs.declared.place.Place.{Place};
+ghost use Rattle.board.specs.Squares.{Place};
 ghost use Rattle.board.specs.Floors.{Floor, SameFromBoth, ClosedAtEdge, Passes};
 ghost use Rattle.board.specs.Places.{megacell_of, slot_of};
 ghost use Rattle.rover.specs.declared.faults.RoverFault.TheVariants.{Closed};

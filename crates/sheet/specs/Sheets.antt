@@ -1,7 +1,7 @@
 -- The sheet of a sweep: its start, its letters, and how it ended, as text.
 use Rattle.std.specs.Prelude.{ℕ, ◌+◌, Bool, true, false, cond, List, [], ◌∷◌, ◌++◌, codes, decimal, ◌==◌}
 use Rattle.std.specs.List.{flat_map}
-use Rattle.board.specs.declared.place.Place.{Place}
+use Rattle.board.specs.Squares.{Place}
 use Rattle.sweep.specs.declared.sweep.Record.{Record}
 
 -- a space and a number, in decimal digits without leading zeros

@@ -3,7 +3,7 @@ use Rattle.std.proofs.Common.{◌≡◌, ℕ, ◌+◌, ◌-◌, ◌<◌, ◌≤�
 use Rattle.std.proofs.lemmas.Bool.{cases_lt}
 use Rattle.std.proofs.lemmas.List.{same_lists, get_or_default, get_or-drop, take-append-drop}
 use Rattle.firsts.proofs.Firsts.{first_none, first_here}
-use Rattle.board.specs.declared.place.Place.{Place}
+use Rattle.board.specs.Squares.{Place}
 use Rattle.board.specs.Floors.{Floor}
 use Rattle.tour.specs.Tour.{home_after, Underway}
 use Rattle.sweep.specs.Promise.{SameFrom}

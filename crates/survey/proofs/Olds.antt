@@ -1,11 +1,10 @@
 -- The old megacells, counted along the history, are as many as there are.
 use Rattle.std.proofs.Common.{◌≡◌, ◌+◌, ◌≤◌, Bool, true, false, cond, not, ◌||◌, List, [], ◌∷◌, length, sym, refl, ap, ◌∙◌, arith}
 use Rattle.std.proofs.lemmas.Bool.{both_ways}
-use Rattle.board.specs.declared.megacell.Megacell.{Megacell}
-use Rattle.board.specs.declared.place.Place.{Place}
+use Rattle.board.specs.Squares.{Megacell, Place, same_square}
 use Rattle.board.specs.Counting.{bit, many}
-use Rattle.board.specs.Places.{megacell_of, same_megacell}
-use Rattle.board.proofs.Geometry.{same_megacell_true, same_megacell_refl, bools}
+use Rattle.board.specs.Places.{megacell_of}
+use Rattle.board.proofs.Geometry.{same_square_true, same_square_refl, bools}
 use Rattle.tour.specs.History.{old}
 use Rattle.tour.specs.Ground.{listed, Number}
 use Rattle.survey.specs.Course.{old_count}
@@ -15,10 +14,10 @@ unfoldable olds : Place → List Place → List Megacell
 olds s [] = megacell_of s ∷ []
 olds s (p ∷ ps) = cond (old s ps (megacell_of p)) (olds s ps) (megacell_of p ∷ olds s ps)
 
-same_swapped : (m n : Megacell) → same_megacell m n ≡ same_megacell n m
+same_swapped : (m n : Megacell) → same_square m n ≡ same_square n m
 same_swapped m n = bools _ _
-    (λ e. let q = same_megacell_true m n e in ap (λ x. same_megacell n x) q ∙ same_megacell_refl n)
-    (λ e. let q = same_megacell_true n m e in ap (λ x. same_megacell m x) q ∙ same_megacell_refl m)
+    (λ e. let q = same_square_true m n e in ap (λ x. same_square n x) q ∙ same_square_refl n)
+    (λ e. let q = same_square_true n m e in ap (λ x. same_square m x) q ∙ same_square_refl m)
 
 length_by : (b : Bool) (m : Megacell) (ms : List Megacell) → length (cond b ms (m ∷ ms)) ≡ length ms + bit (not b)
 unfolding bit
@@ -30,14 +29,14 @@ unfolding olds old_count
 olds_length s [] = refl
 olds_length s (p ∷ ps) = length_by (old s ps (megacell_of p)) (megacell_of p) (olds s ps) ∙ ap (λ n. n + bit (not (old s ps (megacell_of p)))) (olds_length s ps)
 
-listed_by : (b : Bool) (m q : Megacell) (ms : List Megacell) (o : Bool) → listed m ms ≡ bit o → (b ≡ true → same_megacell q m ≡ true → o ≡ true) → (b ≡ false → same_megacell q m ≡ true → o ≡ false) → listed m (cond b ms (q ∷ ms)) ≡ bit (same_megacell q m || o)
+listed_by : (b : Bool) (m q : Megacell) (ms : List Megacell) (o : Bool) → listed m ms ≡ bit o → (b ≡ true → same_square q m ≡ true → o ≡ true) → (b ≡ false → same_square q m ≡ true → o ≡ false) → listed m (cond b ms (q ∷ ms)) ≡ bit (same_square q m || o)
 unfolding bit many
-listed_by true m q ms o e f g = e ∙ go (same_megacell q m) o (f refl)
+listed_by true m q ms o e f g = e ∙ go (same_square q m) o (f refl)
   where
     go : (t u : Bool) → (t ≡ true → u ≡ true) → bit u ≡ bit (t || u)
     go true u h = ap bit (h refl)
     go false u h = refl
-listed_by false m q ms o e f g = ap (λ n. bit (same_megacell m q) + n) e ∙ ap (λ t. bit t + bit o) (same_swapped m q) ∙ go (same_megacell q m) o (g refl)
+listed_by false m q ms o e f g = ap (λ n. bit (same_square m q) + n) e ∙ ap (λ t. bit t + bit o) (same_swapped m q) ∙ go (same_square q m) o (g refl)
   where
     go : (t u : Bool) → (t ≡ true → u ≡ false) → bit t + bit u ≡ bit (t || u)
     go true true h = absurd (both_ways true (h refl) refl)
@@ -50,8 +49,8 @@ unfolding olds old many bit
 olds_listed s [] m = ap (λ t. bit t + 0) (same_swapped m (megacell_of s)) ∙ omega arith
 olds_listed s (p ∷ ps) m =
     listed_by (old s ps (megacell_of p)) m (megacell_of p) (olds s ps) (old s ps m) (olds_listed s ps m)
-    (λ e t. ap (old s ps) (sym (same_megacell_true (megacell_of p) m t)) ∙ e)
-    (λ e t. ap (old s ps) (sym (same_megacell_true (megacell_of p) m t)) ∙ e)
+    (λ e t. ap (old s ps) (sym (same_square_true (megacell_of p) m t)) ∙ e)
+    (λ e t. ap (old s ps) (sym (same_square_true (megacell_of p) m t)) ∙ e)
 
 bit_at_most : (b : Bool) → bit b ≤ 1
 unfolding bit

@@ -1,7 +1,7 @@
 -- How far one run drives, and what it leaves, as functions of the floor, the start and the length of the tour buffer.
 use Rattle.std.specs.Prelude.{ℕ, ◌+◌, not, List, [], ◌∷◌, Some, None, Option}
 use Rattle.firsts.specs.First.{first}
-use Rattle.board.specs.declared.place.Place.{Place}
+use Rattle.board.specs.Squares.{Place}
 use Rattle.board.specs.Counting.{bit}
 use Rattle.board.specs.Floors.{Floor}
 use Rattle.board.specs.Places.{megacell_of}

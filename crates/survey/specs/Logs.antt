@@ -1,6 +1,6 @@
 -- The survey of a log: first its frame, then its bytes, then the survey of the floor that it tells of, seen through the frame.
 use Rattle.std.specs.Prelude.{◌≡◌, ℕ, ◌<◌, ◌≤◌, List, Some, None, Err, Option, Result}
-use Rattle.board.specs.declared.place.Place.{Place}
+use Rattle.board.specs.Squares.{Place}
 use Rattle.board.specs.Floors.{Floor}
 use Rattle.frame.specs.declared.faults.FrameFault.{FrameFault}
 use Rattle.frame.specs.Numbered.{frame_of, place_seen, place_below, heading_below, Refuses}

@@ -1,7 +1,7 @@
 -- The survey of a map: first its frame, then its bytes, then the survey of the floor that it draws, seen through the frame.
 use Rattle.std.specs.Prelude.{◌≡◌, ℕ, ◌<◌, ◌≤◌, List, Ok, Err, Result}
 use Rattle.board.specs.declared.heading.Heading.TheVariants.{East}
-use Rattle.board.specs.declared.place.Place.{Place}
+use Rattle.board.specs.Squares.{Place}
 use Rattle.board.specs.Corners.{subcell}
 use Rattle.board.specs.Floors.{Floor}
 use Rattle.frame.specs.Numbered.{frame_of, place_seen, place_below, heading_below, Refuses}

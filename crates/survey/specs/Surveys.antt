@@ -2,7 +2,7 @@
 use Rattle.std.specs.Prelude.{◌≡◌, ℕ, ◌<◌, ◌≤◌, true, List, ◌++◌, length, drop, Ok, Err, Result}
 use Rattle.fault.specs.declared.layer.Layer.TheVariants.{Sheet as SheetLayer}
 use Rattle.fault.specs.Refusals.{refused}
-use Rattle.board.specs.declared.place.Place.{Place}
+use Rattle.board.specs.Squares.{Place}
 use Rattle.board.specs.Floors.{Floor}
 use Rattle.board.specs.Places.{megacell_of}
 use Rattle.chart.specs.declared.slot.Slot.{Slot}

@@ -1,14 +1,13 @@
 -- What the table of marks makes a sweep choose, case by case; and the steps that no rover refuses.
 use Rattle.std.proofs.Common.{◌≡◌, Bool, true, false, cond, List, Some, None, Option, ap, ◌∙◌, inl, inr}
-use Rattle.board.specs.declared.megacell.Megacell.{Megacell}
-use Rattle.board.specs.declared.place.Place.{Place}
+use Rattle.board.specs.Squares.{Megacell, Place}
 use Rattle.board.specs.Headings.{left, right}
 use Rattle.board.specs.Places.{megacell_of}
 use Rattle.board.specs.Corners.{exit, subcell}
-use Rattle.board.specs.Steps.{beside, ahead}
+use Rattle.board.specs.Steps.{beside}
 use Rattle.board.specs.Floors.{Floor}
 use Rattle.board.specs.declared.heading.Heading.{Heading}
-use Rattle.board.proofs.Geometry.{megacell_subcell, turn_ahead, cross_ahead}
+use Rattle.board.proofs.Geometry.{megacell_subcell, turn_beside, cross_beside}
 use Rattle.rover.specs.Drive.{Blocked}
 use Rattle.sweep.specs.declared.mark.Mark.{Mark}
 use Rattle.sweep.specs.declared.choice.Choice.TheVariants.{Cross, Turn, Look}
@@ -48,8 +47,8 @@ look_is_at_the_neighbour marks p y e = look_is_ahead marks (megacell_of p) (exit
 
 -- a turn is never refused
 pub turn_is_never_barred : {floor : Floor} {p : Place} {h : Heading} → Blocked floor p h → h ≡ left (exit p) → ⊥
-turn_is_never_barred {p = p} b i = b (subcell (megacell_of p) (left (exit p))) (record { next = ap (ahead p) i ∙ turn_ahead p; way = inl (megacell_subcell _ _) })
+turn_is_never_barred {p = p} b i = b (subcell (megacell_of p) (left (exit p))) (record { next = ap (beside p) i ∙ turn_beside p; way = inl (megacell_subcell _ _) })
 
 -- nor is a cross of an open side to a neighbour that is there
 pub open_cross_is_never_barred : {floor : Floor} {p : Place} {h : Heading} (y : Megacell) → Blocked floor p h → h ≡ exit p → beside (megacell_of p) (exit p) ≡ Some y → floor (megacell_of p) h ≡ true → ⊥
-open_cross_is_never_barred {floor = floor} {p = p} y b i j f = b (subcell y (right (exit p))) (record { next = ap (ahead p) i ∙ cross_ahead p y j; way = inr f })
+open_cross_is_never_barred {floor = floor} {p = p} y b i j f = b (subcell y (right (exit p))) (record { next = ap (beside p) i ∙ cross_beside p y j; way = inr f })

@@ -2,15 +2,14 @@
 use Rattle.std.proofs.Common.{◌≡◌, ℕ, zero, suc, ◌+◌, Bool, true, false, cond, ◌≢◌, List, [], ◌∷◌, length, get_or, set, replicate, Some, None, Option, sym, refl, ap, ◌∙◌, subst, inl, inr, arith, get_or-set_other, get_or-set_same}
 use Rattle.std.proofs.lemmas.Bool.{both_ways, cases_Bool}
 use Rattle.board.specs.declared.heading.Heading.{Heading}
-use Rattle.board.specs.declared.megacell.Megacell.{Megacell}
-use Rattle.board.specs.declared.place.Place.{Place}
+use Rattle.board.specs.Squares.{Megacell, Place, same_square, number_of}
 use Rattle.board.specs.Headings.{left, opposite}
-use Rattle.board.specs.Places.{same_megacell, megacell_of, number_of}
+use Rattle.board.specs.Places.{megacell_of}
 use Rattle.board.specs.Corners.{exit}
 use Rattle.board.specs.Steps.{beside, step}
 use Rattle.board.specs.Counting.{bit}
 use Rattle.board.specs.Floors.{Floor}
-use Rattle.board.proofs.Geometry.{megacell_path, same_megacell_true, same_megacell_refl, same_heading_true, megacell_subcell, turned, crossed, beside_back}
+use Rattle.board.proofs.Geometry.{square_path, same_square_true, same_square_refl, same_heading_true, megacell_subcell, turned, crossed, beside_back}
 use Rattle.tour.specs.History.{here, old, parent}
 use Rattle.tour.specs.Rules.{is_parent, absent_or_old, ruled, next_move}
 use Rattle.tour.specs.Ground.{Number}
@@ -28,7 +27,7 @@ abbrev pub Tells : Place → List Place → List Mark → Type 0
 Tells s ps marks = (m : Megacell) → Says s ps m (mark_at marks m)
 
 one_megacell_to_a_number : (m n : Megacell) → number_of m ≡ number_of n → m ≡ n
-one_megacell_to_a_number m n e = megacell_path m n (omega arith) (omega arith)
+one_megacell_to_a_number m n e = square_path m n (omega arith) (omega arith)
 
 -- A move into an old megacell changes no mark.
 says_as_before : (s q : Place) (ps : List Place) (m : Megacell) (k : Mark) → (old s ps m ≡ false → old s (q ∷ ps) m ≡ false) → Says s ps m k → Says s (q ∷ ps) m k
@@ -40,10 +39,10 @@ pub old_entry_keeps_marks : (s q : Place) (ps : List Place) (marks : List Mark) 
 old_entry_keeps_marks s q ps marks o t m = says_as_before s q ps m (mark_at marks m) (λ e. entering_old_ages_none s q ps m o ∙ e) (t m)
 
 -- A first entry marks the megacell.
-other_marks_stay : (marks : List Mark) (y m : Megacell) (k : Mark) → same_megacell m y ≡ false → mark_at (set marks (number_of y) k) m ≡ mark_at marks m
+other_marks_stay : (marks : List Mark) (y m : Megacell) (k : Mark) → same_square m y ≡ false → mark_at (set marks (number_of y) k) m ≡ mark_at marks m
 unfolding mark_at
 other_marks_stay marks y m k e =
-    let ne : number_of m ≢ number_of y = λ i. both_ways _ e (ap (λ (x : Megacell). same_megacell x y) (one_megacell_to_a_number m y i) ∙ same_megacell_refl y) in
+    let ne : number_of m ≢ number_of y = λ i. both_ways _ e (ap (λ (x : Megacell). same_square x y) (one_megacell_to_a_number m y i) ∙ same_square_refl y) in
     get_or-set_other marks (number_of y) (number_of m) k New ne
 
 mark_is_set : (marks : List Mark) (y : Megacell) (k : Mark) → length marks ≡ 1024 → mark_at (set marks (number_of y) k) y ≡ k
@@ -56,9 +55,9 @@ unset_mark_is_new marks m new = new (number_of m)
 
 pub first_entry_keeps_marks : (s q : Place) (ps : List Place) (marks : List Mark) (y : Megacell) (e : Heading) → length marks ≡ 1024 → beside (megacell_of (here s ps)) e ≡ Some y → old s ps y ≡ false → megacell_of q ≡ y →
     Tells s ps marks → Tells s (q ∷ ps) (set marks (number_of y) (Under (opposite e)))
-first_entry_keeps_marks s q ps marks y e size b new in_y t m = elim (cases_Bool (same_megacell m y)) [
+first_entry_keeps_marks s q ps marks y e size b new in_y t m = elim (cases_Bool (same_square m y)) [
   | inl i ↦
-      let is : m ≡ y = same_megacell_true m y i in
+      let is : m ≡ y = same_square_true m y i in
       let x = megacell_of (here s ps) in
       let w : Says s (q ∷ ps) y (Under (opposite e)) = (
         ap (old s (q ∷ ps)) (sym in_y) ∙ entered_is_old s q ps,
@@ -69,7 +68,7 @@ first_entry_keeps_marks s q ps marks y e size b new in_y t m = elim (cases_Bool 
   | inr i ↦
       subst (λ (k : Mark). Says s (q ∷ ps) m k) (sym (other_marks_stay marks y m (Under (opposite e)) i))
       (says_as_before s q ps m (mark_at marks m) (λ o. false_unless_true _ (λ a. elim (newly_old_is_entered s q ps m a) [
-        | inl f ↦ both_ways (same_megacell m y) i (ap (same_megacell m) (sym in_y ∙ f) ∙ same_megacell_refl m)
+        | inl f ↦ both_ways (same_square m y) i (ap (same_square m) (sym in_y ∙ f) ∙ same_square_refl m)
         | inr f ↦ both_ways _ o f
       ])) (t m))
 ]
@@ -191,11 +190,11 @@ all_are_new (suc n) (suc i) = all_are_new n i
 
 pub fresh_marks_stand : (s : Place) (marks : List Mark) → length marks ≡ 1024 → ((i : ℕ) → get_or marks i New ≡ New) → Tells s [] (set marks (number_of (megacell_of s)) Root)
 unfolding old parent
-fresh_marks_stand s marks size new m = elim (cases_Bool (same_megacell m (megacell_of s))) [
+fresh_marks_stand s marks size new m = elim (cases_Bool (same_square m (megacell_of s))) [
   | inl e ↦
-      let is = same_megacell_true m (megacell_of s) e in
+      let is = same_square_true m (megacell_of s) e in
       let k : mark_at (set marks (number_of (megacell_of s)) Root) m ≡ Root = ap (mark_at (set marks (number_of (megacell_of s)) Root)) is ∙ mark_is_set marks (megacell_of s) Root size in
-      subst (λ (v : Mark). Says s [] m v) (sym k) (ap (same_megacell (megacell_of s)) is ∙ same_megacell_refl (megacell_of s), refl)
+      subst (λ (v : Mark). Says s [] m v) (sym k) (ap (same_square (megacell_of s)) is ∙ same_square_refl (megacell_of s), refl)
   | inr e ↦
       let k : mark_at (set marks (number_of (megacell_of s)) Root) m ≡ New = other_marks_stay marks (megacell_of s) m Root e ∙ unset_mark_is_new marks m new in
       subst (λ (v : Mark). Says s [] m v) (sym k) (same_megacell_sym (megacell_of s) m ∙ e)

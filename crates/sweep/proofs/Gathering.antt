@@ -4,7 +4,7 @@ use borrow.Rule.Slice.PartMut.{put_mid, put_same}
 use Rattle.std.proofs.lemmas.List.{places}
 use Rattle.std.proofs.lemmas.Bool.{cases_Bool, cases_lt}
 use Rattle.board.specs.declared.heading.Heading.{Heading}
-use Rattle.board.specs.declared.place.Place.{Place}
+use Rattle.board.specs.Squares.{Place}
 use Rattle.board.specs.Headings.{letter}
 use Rattle.board.specs.Floors.{Floor, Lawful}
 use Rattle.tour.specs.Tour.{tour, letters, visited, move_after}

@@ -2,14 +2,13 @@
 use Rattle.std.proofs.Common.{◌≡◌, ℕ, ◌+◌, ◌*◌, ◌<◌, ◌≤◌, min, Bool, true, false, ◌≢◌, List, [], ◌∷◌, length, set, Some, None, Ok, Err, Option, Result, sym, refl, ap, ◌∙◌, subst, inl, inr, add-one, arith, length-set, get_or-set_other, get_or-set_same, MatchResult}
 use Rattle.std.proofs.lemmas.Bool.{both_ways, cases_Bool}
 use Rattle.board.specs.declared.heading.Heading.{Heading}
-use Rattle.board.specs.declared.megacell.Megacell.{Megacell}
-use Rattle.board.specs.declared.place.Place.{Place}
-use Rattle.board.specs.Places.{same_place, megacell_of, slot_of}
+use Rattle.board.specs.Squares.{Megacell, Place, same_square}
+use Rattle.board.specs.Places.{megacell_of, slot_of}
 use Rattle.board.specs.Corners.{exit}
 use Rattle.board.specs.Steps.{step}
 use Rattle.board.specs.Counting.{bit, many}
 use Rattle.board.specs.Floors.{Floor, Lawful, Passes}
-use Rattle.board.proofs.Geometry.{place_path, same_place_true, same_place_refl, step_is}
+use Rattle.board.proofs.Geometry.{square_path, same_square_true, same_square_refl, step_is}
 use Rattle.tour.specs.History.{here, old, home, walk, entered}
 use Rattle.tour.specs.Rules.{Move}
 use Rattle.tour.specs.Ground.{Number}
@@ -63,32 +62,32 @@ counted_if_more false k n = ap (λ (x : ℕ). counted_by x n) (omega arith)
 
 -- The slots of a chart, after one is written.
 one_place_to_a_slot : (p q : Place) → slot_of p ≡ slot_of q → p ≡ q
-one_place_to_a_slot p q e = place_path p q (omega arith) (omega arith)
+one_place_to_a_slot p q e = square_path p q (omega arith) (omega arith)
 
 slot_is_set : {A : Type 0} (slots : List (Slot A)) (q : Place) (v : Slot A) → 4096 ≤ length slots → slot_at (set slots (slot_of q) v) q ≡ v
 slot_is_set slots q v h = get_or-set_same slots (slot_of q) v Empty (omega arith)
 
-other_slots_stay : {A : Type 0} (slots : List (Slot A)) (q p : Place) (v : Slot A) → same_place p q ≡ false → slot_at (set slots (slot_of q) v) p ≡ slot_at slots p
+other_slots_stay : {A : Type 0} (slots : List (Slot A)) (q p : Place) (v : Slot A) → same_square p q ≡ false → slot_at (set slots (slot_of q) v) p ≡ slot_at slots p
 other_slots_stay slots q p v e =
-    let ne : slot_of p ≢ slot_of q = λ i. both_ways _ e (ap (λ (x : Place). same_place x q) (one_place_to_a_slot p q i) ∙ same_place_refl q) in
+    let ne : slot_of p ≢ slot_of q = λ i. both_ways _ e (ap (λ (x : Place). same_square x q) (one_place_to_a_slot p q i) ∙ same_square_refl q) in
     get_or-set_other slots (slot_of q) (slot_of p) v Empty ne
 
 charted_after_a_move : {A : Type 0} (field : Place → A) (slots : List (Slot A)) (ps : List Place) (q : Place) → 4096 ≤ length slots →
-    ((p : Place) → 1 ≤ many (same_place p) ps → slot_at slots p ≡ Holds (field p)) →
-    (p : Place) → 1 ≤ many (same_place p) (q ∷ ps) → slot_at (set slots (slot_of q) (Holds (field q))) p ≡ Holds (field p)
+    ((p : Place) → 1 ≤ many (same_square p) ps → slot_at slots p ≡ Holds (field p)) →
+    (p : Place) → 1 ≤ many (same_square p) (q ∷ ps) → slot_at (set slots (slot_of q) (Holds (field q))) p ≡ Holds (field p)
 unfolding many bit
-charted_after_a_move field slots ps q room held p h = elim (cases_Bool (same_place p q)) [
+charted_after_a_move field slots ps q room held p h = elim (cases_Bool (same_square p q)) [
   | inl e ↦
-      let is = same_place_true p q e in
+      let is = same_square_true p q e in
       ap (slot_at (set slots (slot_of q) (Holds (field q)))) is ∙ slot_is_set slots q (Holds (field q)) room ∙ ap (λ (x : Place). Holds (field x)) (sym is)
   | inr e ↦ other_slots_stay slots q p (Holds (field q)) e ∙ held p (omega (arith, ap bit e))
 ]
 
 blank_after_a_move : {A : Type 0} (slots : List (Slot A)) (v : Slot A) (ps : List Place) (q : Place) →
-    ((p : Place) → many (same_place p) ps ≡ 0 → slot_at slots p ≡ Empty) →
-    (p : Place) → many (same_place p) (q ∷ ps) ≡ 0 → slot_at (set slots (slot_of q) v) p ≡ Empty
+    ((p : Place) → many (same_square p) ps ≡ 0 → slot_at slots p ≡ Empty) →
+    (p : Place) → many (same_square p) (q ∷ ps) ≡ 0 → slot_at (set slots (slot_of q) v) p ≡ Empty
 unfolding many bit
-blank_after_a_move slots v ps q clear p h = elim (cases_Bool (same_place p q)) [
+blank_after_a_move slots v ps q clear p h = elim (cases_Bool (same_square p q)) [
   | inl e ↦ absurd (omega (arith, ap bit e))
   | inr e ↦ other_slots_stay slots q p v e ∙ clear p (omega (arith, ap bit e))
 ]
@@ -226,7 +225,7 @@ module _ {R A : Type 0} (G : Ghosts R A) (origin : R) (law : Lawful (G.floor ori
 
     homed_after : after.home ≡ home (G.place origin) (visited (G.floor origin) (G.place origin) after.moves)
     unfolding home
-    homed_after = m.home ∙ ap (same_place q) st.workings.begun ∙ sym (ap (home (G.place origin)) enters_after)
+    homed_after = m.home ∙ ap (same_square q) st.workings.begun ∙ sym (ap (home (G.place origin)) enters_after)
 
     slots_is : slots_after ≡ set slots (slot_of q) (Holds (G.field origin q))
     slots_is = m.charted ∙ ap (λ (fd : Place → A). set slots (slot_of q) (Holds (fd q))) st.field
@@ -263,8 +262,8 @@ module _ {R A : Type 0} (G : Ghosts R A) (origin : R) (law : Lawful (G.floor ori
         let qs = visited (G.floor origin) (G.place origin) sweep.moves in
         record {
           room = omega (arith, ch.room, ap length slots_is, length-set slots (slot_of q) (Holds (G.field origin q)));
-          charted = λ p i. ap (λ (x : List (Slot A)). slot_at x p) slots_is ∙ charted_after_a_move (G.field origin) slots qs q ch.room ch.charted p (subst (λ (x : List Place). 1 ≤ many (same_place p) x) enters_after i);
-          blank = λ p i. ap (λ (x : List (Slot A)). slot_at x p) slots_is ∙ blank_after_a_move slots (Holds (G.field origin q)) qs q ch.blank p (subst (λ (x : List Place). many (same_place p) x ≡ 0) enters_after i);
+          charted = λ p i. ap (λ (x : List (Slot A)). slot_at x p) slots_is ∙ charted_after_a_move (G.field origin) slots qs q ch.room ch.charted p (subst (λ (x : List Place). 1 ≤ many (same_square p) x) enters_after i);
+          blank = λ p i. ap (λ (x : List (Slot A)). slot_at x p) slots_is ∙ blank_after_a_move slots (Holds (G.field origin q)) qs q ch.blank p (subst (λ (x : List Place). many (same_square p) x ≡ 0) enters_after i);
         }
 
     -- a move keeps the law
@@ -347,7 +346,7 @@ nothing_looked_yet : (floor : Floor) (s : Place) (n : ℕ) → n ≡ 0 → tour_
 unfolding tour_looks
 nothing_looked_yet floor s n e = rw e refl
 
-none_entered_before : (p : Place) → 1 ≤ many (same_place p) [] → ⊥
+none_entered_before : (p : Place) → 1 ≤ many (same_square p) [] → ⊥
 unfolding many
 none_entered_before p h = omega arith
 
@@ -356,7 +355,7 @@ chart_at_start G rover sweep slots b blank =
     let none = nothing_entered_yet (G.floor rover) (G.place rover) sweep.moves b.moves in
     record {
       room = blank.room;
-      charted = λ p i. absurd (none_entered_before p (subst (λ (x : List Place). 1 ≤ many (same_place p) x) none i));
+      charted = λ p i. absurd (none_entered_before p (subst (λ (x : List Place). 1 ≤ many (same_square p) x) none i));
       blank = λ p i. blank.clear (slot_of p) (omega arith);
     }
 

@@ -2,8 +2,7 @@
 use Rattle.std.specs.Prelude.{◌≡◌, ℕ, zero, suc, ◌+◌, ◌≤◌, Bool, false, List, length, take}
 use Rattle.rover.specs.declared.meaning.Rover.{Ghosts}
 use Rattle.rover.specs.Drive.{counted}
-use Rattle.board.specs.declared.megacell.Megacell.{Megacell}
-use Rattle.board.specs.declared.place.Place.{Place}
+use Rattle.board.specs.Squares.{Megacell, Place}
 use Rattle.board.specs.Floors.{Floor}
 use Rattle.tour.specs.Tour.{tour, letters, visited, home_after, Underway}
 use Rattle.chart.specs.declared.slot.Slot.{Slot}

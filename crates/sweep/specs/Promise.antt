@@ -1,7 +1,7 @@
 -- What a sweep promises, over its history: it began at the place s on this floor, and made the first n moves of the tour that the rules give from there.
 use Rattle.std.specs.Prelude.{◌≡◌, ℕ, ◌+◌, ◌*◌, ◌<◌, ◌≤◌, min, Bool, true, List, [], ◌∷◌, ◌++◌, length, slice_index, slice_set}
 use Rattle.board.specs.declared.heading.Heading.{Heading}
-use Rattle.board.specs.declared.place.Place.{Place}
+use Rattle.board.specs.Squares.{Place}
 use Rattle.board.specs.Headings.{letter}
 use Rattle.board.specs.Places.{megacell_of, slot_of}
 use Rattle.board.specs.Floors.{Floor}

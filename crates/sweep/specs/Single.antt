@@ -6,9 +6,8 @@ use Rattle.rover.specs.declared.meaning.Rover.{Ghosts}
 use Rattle.rover.specs.declared.faults.RoverFault.TheVariants.{Closed}
 use Rattle.rover.specs.Drive.{counted, Blocked}
 use Rattle.board.specs.declared.heading.Heading.{Heading}
-use Rattle.board.specs.declared.megacell.Megacell.{Megacell}
-use Rattle.board.specs.declared.place.Place.{Place}
-use Rattle.board.specs.Places.{megacell_of, slot_of, number_of, same_place}
+use Rattle.board.specs.Squares.{Megacell, Place, number_of, same_square}
+use Rattle.board.specs.Places.{megacell_of, slot_of}
 use Rattle.board.specs.Corners.{exit}
 use Rattle.board.specs.Floors.{Passes}
 use Rattle.tour.specs.Rules.{Move}
@@ -45,7 +44,7 @@ pub record Steps {R A : Type 0} (G : Ghosts R A) (sweep : Sweep R A) (slots : Li
   pub field : G.field after.rover ≡ G.field sweep.rover
   pub charted : slots_after ≡ slice_set slots (slot_of q) (Holds (G.field sweep.rover q))
   pub moves : after.moves ≡ counted sweep.moves
-  pub home : after.home ≡ same_place q sweep.start
+  pub home : after.home ≡ same_square q sweep.start
   pub start : after.start ≡ sweep.start
 
 -- nothing changed: the five things that the rover means, the sweep and the chart

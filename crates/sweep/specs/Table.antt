@@ -1,10 +1,9 @@
 -- The private table of marks that a sweep keeps, and what it does by it. None of this is needed to read the promise.
 use Rattle.std.specs.Prelude.{◌≡◌, Bool, true, false, cond, List, Some, None, Option, slice_index_or, slice_set}
 use Rattle.board.specs.declared.heading.Heading.{Heading}
-use Rattle.board.specs.declared.megacell.Megacell.{Megacell}
-use Rattle.board.specs.declared.place.Place.{Place}
+use Rattle.board.specs.Squares.{Megacell, Place, number_of}
 use Rattle.board.specs.Headings.{left, opposite, same_heading}
-use Rattle.board.specs.Places.{megacell_of, number_of}
+use Rattle.board.specs.Places.{megacell_of}
 use Rattle.board.specs.Corners.{exit}
 use Rattle.board.specs.Steps.{beside}
 use Rattle.tour.specs.History.{old, parent}

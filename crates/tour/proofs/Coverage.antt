@@ -3,9 +3,8 @@ use Rattle.std.proofs.Common.{◌≡◌, ℕ, zero, suc, ◌+◌, ◌*◌, ◌�
 use mathlib.Core.List.{reverse_aux}
 use Rattle.std.proofs.lemmas.Bool.{both_ways}
 use Rattle.board.specs.declared.heading.Heading.{Heading}
-use Rattle.board.specs.declared.megacell.Megacell.{Megacell}
-use Rattle.board.specs.declared.place.Place.{Place}
-use Rattle.board.specs.Places.{same_place, megacell_of}
+use Rattle.board.specs.Squares.{Megacell, Place, same_square}
+use Rattle.board.specs.Places.{megacell_of}
 use Rattle.board.specs.Corners.{subcell}
 use Rattle.board.specs.Steps.{step}
 use Rattle.board.specs.Counting.{bit, many}
@@ -14,7 +13,7 @@ use Rattle.board.specs.Floors.{Floor, Lawful}
 use Rattle.tour.specs.Ground.{Ground, begin, across, Number}
 use Rattle.tour.specs.Rules.{next_move}
 use Rattle.tour.specs.Tour.{tour, visited, tour_looks, Underway, Covers}
-use Rattle.board.proofs.Geometry.{same_place_true, same_place_refl, same_megacell_refl, megacell_subcell, exit_subcell}
+use Rattle.board.proofs.Geometry.{same_square_true, same_square_refl, megacell_subcell, exit_subcell}
 use Rattle.tour.proofs.History.{false_unless_true, start_is_old, true_when_counted, bit_at_most_one, Plan, head_is_in, tail_is_in, Departed, start_is_departed, entered_is_departed}
 use Rattle.tour.proofs.Laws.{Laws, laws_at_start, Advances, move_keeps_laws}
 
@@ -43,40 +42,40 @@ unfolding entered
 entered_length s ms = omega (arith, walk_length s [] ms)
 
 -- as long as a plan is left, it ends with the start
-start_is_planned : (s : Place) (ps : List Place) (p b : Place) (rest : List Place) → Plan s ps p (b ∷ rest) → 1 ≤ many (same_place s) (b ∷ rest)
-start_is_planned s ps p b [] k = subst (λ (x : Place). 1 ≤ many (same_place s) (x ∷ [])) (sym k.1) (head_is_in s [])
+start_is_planned : (s : Place) (ps : List Place) (p b : Place) (rest : List Place) → Plan s ps p (b ∷ rest) → 1 ≤ many (same_square s) (b ∷ rest)
+start_is_planned s ps p b [] k = subst (λ (x : Place). 1 ≤ many (same_square s) (x ∷ [])) (sym k.1) (head_is_in s [])
 start_is_planned s ps p b (d ∷ rest) k = tail_is_in s b (d ∷ rest) (start_is_planned s ps b d rest k.1)
 
 home_stands_at_start : (s : Place) (ps : List Place) → home s ps ≡ true → here s ps ≡ s
 unfolding home here
 home_stands_at_start s [] e = refl
-home_stands_at_start s (p ∷ ps) e = same_place_true p s e
+home_stands_at_start s (p ∷ ps) e = same_square_true p s e
 
-home_entered_start : (s : Place) (ps : List Place) → home s ps ≡ true → 1 ≤ many (same_place s) ps
+home_entered_start : (s : Place) (ps : List Place) → home s ps ≡ true → 1 ≤ many (same_square s) ps
 unfolding home
 home_entered_start s [] e = absurd (both_ways false refl e)
-home_entered_start s (p ∷ ps) e = subst (λ (x : Place). 1 ≤ many (same_place s) (x ∷ ps)) (sym (same_place_true p s e)) (head_is_in s ps)
+home_entered_start s (p ∷ ps) e = subst (λ (x : Place). 1 ≤ many (same_square s) (x ∷ ps)) (sym (same_square_true p s e)) (head_is_in s ps)
 
-home_departed_from_all : (s : Place) (ps : List Place) (a : Place) → home s ps ≡ true → 1 ≤ many (same_place a) ps → Departed s ps a
+home_departed_from_all : (s : Place) (ps : List Place) (a : Place) → home s ps ≡ true → 1 ≤ many (same_square a) ps → Departed s ps a
 unfolding home many bit
 home_departed_from_all s [] a e h = absurd (both_ways false refl e)
-home_departed_from_all s (p ∷ ps) a e h = go (same_place a p) refl h
+home_departed_from_all s (p ∷ ps) a e h = go (same_square a p) refl h
   where
-    go : (b : Bool) → same_place a p ≡ b → 1 ≤ bit b + many (same_place a) ps → Departed s (p ∷ ps) a
-    go true f k = subst (Departed s (p ∷ ps)) (sym (same_place_true a p f ∙ same_place_true p s e)) (start_is_departed s p ps)
+    go : (b : Bool) → same_square a p ≡ b → 1 ≤ bit b + many (same_square a) ps → Departed s (p ∷ ps) a
+    go true f k = subst (Departed s (p ∷ ps)) (sym (same_square_true a p f ∙ same_square_true p s e)) (start_is_departed s p ps)
     go false f k = entered_is_departed s p ps a (omega arith)
 
 module _ (floor : Floor) (s : Place) (ps : List Place) (olds : List Megacell) (l : ℕ) where
-  start_not_yet_entered : (b : Place) (rest : List Place) → Laws floor s ps (b ∷ rest) olds l → 1 ≤ many (same_place s) ps → ⊥
+  start_not_yet_entered : (b : Place) (rest : List Place) → Laws floor s ps (b ∷ rest) olds l → 1 ≤ many (same_square s) ps → ⊥
   start_not_yet_entered b rest v h = omega (arith, v.once s, bit_at_most_one (old s ps (megacell_of s)), start_is_planned s ps (here s ps) b rest v.plan)
 
   plan_done_is_home : Laws floor s ps [] olds l → home s ps ≡ true
   unfolding here home many bit old
   plan_done_is_home v = go ps v.plan (v.once s)
     where
-      go : (qs : List Place) → here s qs ≡ s → many (same_place s) qs + many (same_place s) [] ≡ bit (old s qs (megacell_of s)) → home s qs ≡ true
-      go [] e k = absurd (omega (arith, ap bit (same_megacell_refl (megacell_of s))))
-      go (q ∷ qs) e k = ap (λ (x : Place). same_place x s) e ∙ same_place_refl s
+      go : (qs : List Place) → here s qs ≡ s → many (same_square s) qs + many (same_square s) [] ≡ bit (old s qs (megacell_of s)) → home s qs ≡ true
+      go [] e k = absurd (omega (arith, ap bit (same_square_refl (megacell_of s))))
+      go (q ∷ qs) e k = ap (λ (x : Place). same_square x s) e ∙ same_square_refl s
 
   home_olds_are_closed : Laws floor s ps [] olds l → (m : Megacell) → Ground floor s m → old s ps m ≡ true
   unfolding many bit
@@ -86,10 +85,10 @@ module _ (floor : Floor) (s : Place) (ps : List Place) (olds : List Megacell) (l
       let ma = megacell_subcell k h in
       let ea = exit_subcell k h in
       let o : old s ps (megacell_of a) ≡ true = ap (old s ps) ma ∙ home_olds_are_closed v k g in
-      let i : 1 ≤ many (same_place a) ps = omega (arith, v.once a, ap bit o) in
+      let i : 1 ≤ many (same_square a) ps = omega (arith, v.once a, ap bit o) in
       v.seen a (home_departed_from_all s ps a (plan_done_is_home v) i) m (rw (ma, ea) e) (rw (ma, ea) f)
 
-  home_entered_all : Laws floor s ps [] olds l → (p : Place) → Ground floor s (megacell_of p) → 1 ≤ many (same_place p) ps
+  home_entered_all : Laws floor s ps [] olds l → (p : Place) → Ground floor s (megacell_of p) → 1 ≤ many (same_square p) ps
   unfolding many bit
   home_entered_all v p g = let o = home_olds_are_closed v (megacell_of p) g in omega (arith, v.once p, ap bit o)
 
@@ -97,11 +96,11 @@ module _ (floor : Floor) (s : Place) (ps : List Place) (olds : List Megacell) (l
   planned_is_not_home b rest v = false_unless_true (home s ps) (λ e. start_not_yet_entered b rest v (home_entered_start s ps e))
 
   -- home exactly when the plan is done
-  home_is_whole : (rest : List Place) → Laws floor s ps rest olds l → home s ps ≡ true → (p : Place) → Ground floor s (megacell_of p) → 1 ≤ many (same_place p) ps
+  home_is_whole : (rest : List Place) → Laws floor s ps rest olds l → home s ps ≡ true → (p : Place) → Ground floor s (megacell_of p) → 1 ≤ many (same_square p) ps
   home_is_whole [] v e = home_entered_all v
   home_is_whole (b ∷ rest) v e = absurd (both_ways _ (planned_is_not_home b rest v) e)
 
-  whole_is_home : (rest : List Place) → Laws floor s ps rest olds l → ((p : Place) → Ground floor s (megacell_of p) → 1 ≤ many (same_place p) ps) → home s ps ≡ true
+  whole_is_home : (rest : List Place) → Laws floor s ps rest olds l → ((p : Place) → Ground floor s (megacell_of p) → 1 ≤ many (same_square p) ps) → home s ps ≡ true
   whole_is_home [] v k = plan_done_is_home v
   whole_is_home (b ∷ rest) v k = absurd (start_not_yet_entered b rest v (k s begin))
 

@@ -1,7 +1,7 @@
 -- Every tour comes home: each megacell is counted once, the board has 1,024, and each takes four moves.
 use Rattle.std.proofs.Common.{◌≡◌, ℕ, zero, suc, ◌+◌, ◌*◌, ◌<◌, ◌≤◌, Bool, true, false, ◌⊎◌, length, refl, ap, ◌∙◌, inl, inr, arith, length-append}
 use Rattle.std.proofs.lemmas.Bool.{cases_lt, cases_Bool}
-use Rattle.board.specs.declared.place.Place.{Place}
+use Rattle.board.specs.Squares.{Place}
 use Rattle.board.specs.Floors.{Floor, Lawful}
 use Rattle.tour.specs.Tour.{tour, visited, tour_looks, home_after, Underway, ComesHome}
 use Rattle.tour.proofs.Coverage.{LawsHold, laws_hold, olds_number, entered_length}

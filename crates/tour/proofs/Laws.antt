@@ -7,19 +7,17 @@ use Rattle.std.proofs.lemmas.Bool.{both_ways}
 use Rattle.board.specs.declared.heading.Heading.{Heading}
 use Rattle.board.specs.declared.heading.Heading.TheVariants.{North, East, South, West}
 use Rattle.board.specs.Headings.{same_heading, heading_number, left, right, opposite}
-use Rattle.board.specs.Places.{same_megacell, same_place, megacell_of}
+use Rattle.board.specs.Squares.{same_square, Megacell, Place}
+use Rattle.board.specs.Places.{megacell_of}
 use Rattle.board.specs.Corners.{exit, subcell}
 use Rattle.board.specs.Steps.{step, beside}
-use Rattle.board.specs.declared.megacell.Megacell.{Megacell}
-use Rattle.board.specs.declared.place.Place.{Place}
 use Rattle.board.specs.Counting.{bit, many}
 use Rattle.tour.specs.History.{here, old, parent}
 use Rattle.tour.specs.Rules.{is_parent, absent_or_old}
 use Rattle.board.specs.Floors.{Floor, Lawful, Passes}
 use Rattle.tour.specs.Ground.{Ground, begin, across}
 use Rattle.tour.specs.Rules.{Move, ruled, next_move}
-use Rattle.board.proofs.Geometry.{same_megacell_true, same_heading_refl, megacell_subcell, exit_subcell, subcell_own}
-use Rattle.board.proofs.Geometry.{beside_back, beside_inj, turned, crossed, turn_ahead, cross_ahead, step_ahead, four_places}
+use Rattle.board.proofs.Geometry.{same_square_true, same_heading_refl, megacell_subcell, exit_subcell, subcell_own, beside_back, beside_inj, turned, crossed, turn_beside, cross_beside, step_beside, four_places}
 use Rattle.tour.proofs.History.{same_megacell_sym, true_when_counted, bit_at_most_one, bit_of_either, false_unless_true, here_is_old, old_stays_old, entered_is_old, newly_old_is_entered, entering_old_ages_none, parent_of_new_is_left, parent_stays_or_is_left}
 use Rattle.tour.proofs.History.{leads_to_parent, parent_when_is_parent, is_parent_names_one, same_is_parent, planned, Plan, unexamined, head_is_in, tail_is_in, plan_stays, unexamined_stays, Departed}
 
@@ -28,9 +26,9 @@ pub record Laws (floor : Floor) (s : Place) (ps rest : List Place) (olds : List 
   -- the plan leads from where the rover stands to the start
   pub plan : Plan s ps (here s ps) rest
   -- the places entered and planned are the subcells of the old megacells, each once
-  pub once : (a : Place) → many (same_place a) ps + many (same_place a) rest ≡ bit (old s ps (megacell_of a))
+  pub once : (a : Place) → many (same_square a) ps + many (same_square a) rest ≡ bit (old s ps (megacell_of a))
   -- the list has each old megacell once, and there are four places for each
-  pub list : (m : Megacell) → many (same_megacell m) olds ≡ bit (old s ps m)
+  pub list : (m : Megacell) → many (same_square m) olds ≡ bit (old s ps m)
   pub size : length ps + length rest ≡ 4 * length olds
   -- old megacells are in the ground; the side to a parent is open, and a parent is old
   pub ground : (m : Megacell) → old s ps m ≡ true → Ground floor s m
@@ -94,7 +92,7 @@ abbrev pub Advances : Floor → Place → List Place → ℕ → Move → Type 0
 Advances floor s ps l n = (rest : List Place) × (olds : List Megacell) × Laws floor s (step n.heading (here s ps) ∷ ps) rest olds (l + bit n.looked) × Passes floor (here s ps) n.heading (step n.heading (here s ps))
 
 module _ (floor : Floor) (law : Lawful floor) (s : Place) where
-  planned_is_old : (ps rest : List Place) (olds : List Megacell) (l : ℕ) → Laws floor s ps rest olds l → (a : Place) → 1 ≤ many (same_place a) rest → old s ps (megacell_of a) ≡ true
+  planned_is_old : (ps rest : List Place) (olds : List Megacell) (l : ℕ) → Laws floor s ps rest olds l → (a : Place) → 1 ≤ many (same_square a) rest → old s ps (megacell_of a) ≡ true
   planned_is_old ps rest olds l v a h = true_when_counted _ (omega (arith, v.once a))
 
   -- rules 1 and 2, and rule 3 at a closed side: the move that was planned
@@ -104,7 +102,7 @@ module _ (floor : Floor) (law : Lawful floor) (s : Place) where
   unfolding here many unexamined
   following_the_plan_keeps_laws ps rest b olds l l' v saw le =
       let o : old s ps (megacell_of b) ≡ true = planned_is_old ps (b ∷ rest) olds l v b (head_is_in b rest) in
-      let all : (a : Place) → 1 ≤ many (same_place a) rest → old s ps (megacell_of a) ≡ true = λ a h. planned_is_old ps (b ∷ rest) olds l v a (tail_is_in a b rest h) in
+      let all : (a : Place) → 1 ≤ many (same_square a) rest → old s ps (megacell_of a) ≡ true = λ a h. planned_is_old ps (b ∷ rest) olds l v a (tail_is_in a b rest h) in
       record {
         plan = plan_stays s b ps b rest o all v.plan.1;
         once = λ a. rw (entering_old_ages_none s b ps (megacell_of a) o) (omega (arith, v.once a));
@@ -166,9 +164,9 @@ module _ (floor : Floor) (law : Lawful floor) (s : Place) where
         let q = subcell y (right e) in
         let in_y : megacell_of q ≡ y = megacell_subcell y (right e) in
         let o : old s ps (megacell_of b) ≡ true = planned_is_old ps (b ∷ rest) olds l v b (head_is_in b rest) in
-        let all : (a : Place) → 1 ≤ many (same_place a) rest → old s ps (megacell_of a) ≡ true = λ a h. planned_is_old ps (b ∷ rest) olds l v a (tail_is_in a b rest h) in
+        let all : (a : Place) → 1 ≤ many (same_square a) rest → old s ps (megacell_of a) ≡ true = λ a h. planned_is_old ps (b ∷ rest) olds l v a (tail_is_in a b rest h) in
         let at_b : b ≡ subcell x (left e) = v.plan.0 ∙ rw (t, is_e, ← is_x) (rw is_e at (turned (here s ps))) in
-        let adds : (m : Megacell) → bit (old s (q ∷ ps) m) ≡ bit (same_megacell m y) + bit (old s ps m) = λ m. rw (old, in_y) (bit_of_either (same_megacell y m) (old s ps m) (λ i. ap (old s ps) (sym (same_megacell_true y m i)) ∙ new) ∙ ap (λ (c : Bool). bit c + bit (old s ps m)) (same_megacell_sym y m)) in
+        let adds : (m : Megacell) → bit (old s (q ∷ ps) m) ≡ bit (same_square m y) + bit (old s ps m) = λ m. rw (old, in_y) (bit_of_either (same_square y m) (old s ps m) (λ i. ap (old s ps) (sym (same_square_true y m i)) ∙ new) ∙ ap (λ (c : Bool). bit c + bit (old s ps m)) (same_megacell_sym y m)) in
         record {
           plan = (ap (subcell y) (sym (left_of_right e)) ∙ turn_leads_to (right e) (right_is_not_opposite e), (turn_leads_to e (own_is_not_opposite e), (ap (subcell y) (sym (left_of_left e)) ∙ turn_leads_to (left e) (left_is_not_opposite e), (at_b ∙ cross_leads_to, plan_stays s q ps b rest o all v.plan.1))));
           once = λ a. rw (adds (megacell_of a)) (omega (arith, v.once a, four_places a y e));
@@ -238,7 +236,7 @@ module _ (floor : Floor) (law : Lawful floor) (s : Place) where
         once = λ a. omega (arith, four_places a m e, ap bit (same_megacell_sym (megacell_of a) m));
         list = λ n. omega (arith, ap bit (same_megacell_sym n m));
         size = omega arith;
-        ground = λ n i. subst (Ground floor s) (same_megacell_true m n i) begin;
+        ground = λ n i. subst (Ground floor s) (same_square_true m n i) begin;
         parents = λ n z h i j. (cc, cc);
         seen = λ a d y i j. absurd d;
         few = omega (arith, bit_at_most_one);
@@ -256,7 +254,7 @@ module _ (floor : Floor) (law : Lawful floor) (s : Place) where
           subcell y e ∷ (subcell y (left e) ∷ (subcell y (opposite e) ∷ (b ∷ rest))),
           y ∷ olds,
           rw q (first_entry_keeps_laws ps x y e refl refl i a (v.ground x (here_is_old s ps)) rest b olds l v t f),
-          record { next = step_ahead (exit (here s ps)) (here s ps) _ (cross_ahead (here s ps) y i); way = inr f },
+          record { next = step_beside (exit (here s ps)) (here s ps) _ (cross_beside (here s ps) y i); way = inr f },
         )
 
     move_keeps_laws_by : (t o f : Bool) → leads_to_parent s ps (here s ps) ≡ t → absent_or_old s ps (beside (megacell_of (here s ps)) (exit (here s ps))) ≡ o →
@@ -271,7 +269,7 @@ module _ (floor : Floor) (law : Lawful floor) (s : Place) where
           olds,
           subst (λ (z : Place). Laws floor s (z ∷ ps) rest olds (l + 0)) (v.plan.0 ∙ ap (λ (c : Bool). step (planned c e) (here s ps)) et)
               (following_the_plan_keeps_laws ps rest b olds l (l + 0) v (λ y i j. (v.parents x y e (parent_when_is_parent _ _ y et i) i).1) (omega arith)),
-          record { next = step_ahead e (here s ps) _ (cross_ahead (here s ps) w.0 w.1); way = inr k.0 },
+          record { next = step_beside e (here s ps) _ (cross_beside (here s ps) w.0 w.1); way = inr k.0 },
         )
     move_keeps_laws_by false true f et eo ef =
         let e = exit (here s ps) in (
@@ -279,7 +277,7 @@ module _ (floor : Floor) (law : Lawful floor) (s : Place) where
           olds,
           subst (λ (z : Place). Laws floor s (z ∷ ps) rest olds (l + 0)) (v.plan.0 ∙ ap (λ (c : Bool). step (planned c e) (here s ps)) et)
               (following_the_plan_keeps_laws ps rest b olds l (l + 0) v (λ y i j. ap (absent_or_old s ps) (sym i) ∙ eo) (omega arith)),
-          record { next = step_ahead (left e) (here s ps) _ (turn_ahead (here s ps)); way = inl (ap megacell_of (turned (here s ps)) ∙ megacell_subcell _ _) },
+          record { next = step_beside (left e) (here s ps) _ (turn_beside (here s ps)); way = inl (ap megacell_of (turned (here s ps)) ∙ megacell_subcell _ _) },
         )
     move_keeps_laws_by false false true et eo ef = crossing_new_keeps_laws (beside (megacell_of (here s ps)) (exit (here s ps))) refl et eo ef
     move_keeps_laws_by false false false et eo ef =
@@ -288,7 +286,7 @@ module _ (floor : Floor) (law : Lawful floor) (s : Place) where
           olds,
           subst (λ (z : Place). Laws floor s (z ∷ ps) rest olds (l + 1)) (v.plan.0 ∙ ap (λ (c : Bool). step (planned c e) (here s ps)) et)
               (following_the_plan_keeps_laws ps rest b olds l (l + 1) v (λ y i j. absurd (both_ways _ ef j)) (omega (arith, ap (λ (c : Bool). bit (not c)) et))),
-          record { next = step_ahead (left e) (here s ps) _ (turn_ahead (here s ps)); way = inl (ap megacell_of (turned (here s ps)) ∙ megacell_subcell _ _) },
+          record { next = step_beside (left e) (here s ps) _ (turn_beside (here s ps)); way = inl (ap megacell_of (turned (here s ps)) ∙ megacell_subcell _ _) },
         )
 
     pub move_keeps_laws : Advances floor s ps l (next_move floor s ps)

@@ -1,30 +1,29 @@
 -- `old` and `parent` mean what the words say; and a parent may be kept as the heading towards it.
 use Rattle.std.proofs.Common.{◌≡◌, ◌+◌, ◌≤◌, Bool, true, false, ◌⊎◌, List, [], ◌∷◌, ◌++◌, Some, Option, sym, refl, ap, ◌∙◌, inl, inr, arith}
 use Rattle.board.specs.declared.heading.Heading.{Heading}
-use Rattle.board.specs.declared.megacell.Megacell.{Megacell}
-use Rattle.board.specs.declared.place.Place.{Place}
+use Rattle.board.specs.Squares.{Megacell, Place, same_square}
 use Rattle.board.specs.Headings.{same_heading}
-use Rattle.board.specs.Places.{same_place, megacell_of}
+use Rattle.board.specs.Places.{megacell_of}
 use Rattle.board.specs.Steps.{beside}
 use Rattle.board.specs.Counting.{bit, many}
 use Rattle.tour.specs.History.{here, old, parent}
 use Rattle.tour.specs.Meaning.{FirstEntry, Meaning}
 use Rattle.tour.specs.Rules.{is_parent}
-use Rattle.board.proofs.Geometry.{same_megacell_true, same_place_true, bools, same_heading_true, same_heading_refl, beside_inj}
+use Rattle.board.proofs.Geometry.{same_square_true, bools, same_heading_true, same_heading_refl, beside_inj}
 use Rattle.tour.proofs.History.{start_is_old, is_parent_names_one, same_is_parent, parent_stays_or_is_left, parent_of_old_stays, parent_of_new_is_left, newly_old_is_entered, old_stays_old, entered_is_old, head_is_in, tail_is_in}
 
-entered_makes_old : (s : Place) (ps : List Place) (p : Place) → 1 ≤ many (same_place p) ps → old s ps (megacell_of p) ≡ true
+entered_makes_old : (s : Place) (ps : List Place) (p : Place) → 1 ≤ many (same_square p) ps → old s ps (megacell_of p) ≡ true
 unfolding many bit
 entered_makes_old s [] p h = absurd (omega arith)
-entered_makes_old s (q ∷ ps) p h = go (same_place p q) refl h (entered_makes_old s ps p)
+entered_makes_old s (q ∷ ps) p h = go (same_square p q) refl h (entered_makes_old s ps p)
   where
-    go : (b : Bool) → same_place p q ≡ b → 1 ≤ bit b + many (same_place p) ps → (1 ≤ many (same_place p) ps → old s ps (megacell_of p) ≡ true) → old s (q ∷ ps) (megacell_of p) ≡ true
-    go true e k more = ap (λ (x : Place). old s (q ∷ ps) (megacell_of x)) (same_place_true p q e) ∙ entered_is_old s q ps
+    go : (b : Bool) → same_square p q ≡ b → 1 ≤ bit b + many (same_square p) ps → (1 ≤ many (same_square p) ps → old s ps (megacell_of p) ≡ true) → old s (q ∷ ps) (megacell_of p) ≡ true
+    go true e k more = ap (λ (x : Place). old s (q ∷ ps) (megacell_of x)) (same_square_true p q e) ∙ entered_is_old s q ps
     go false e k more = old_stays_old s q ps (megacell_of p) (more (omega arith))
 
-old_means_entered : (s : Place) (ps : List Place) (m : Megacell) → old s ps m ≡ true → (megacell_of s ≡ m) ⊎ ((p : Place) × (1 ≤ many (same_place p) ps) × (megacell_of p ≡ m))
+old_means_entered : (s : Place) (ps : List Place) (m : Megacell) → old s ps m ≡ true → (megacell_of s ≡ m) ⊎ ((p : Place) × (1 ≤ many (same_square p) ps) × (megacell_of p ≡ m))
 unfolding old
-old_means_entered s [] m e = inl (same_megacell_true (megacell_of s) m e)
+old_means_entered s [] m e = inl (same_square_true (megacell_of s) m e)
 old_means_entered s (p ∷ ps) m e = elim (newly_old_is_entered s p ps m e) [
   | inl f ↦ inr (p, head_is_in p ps, f)
   | inr f ↦ elim (old_means_entered s ps m f) [

@@ -1,7 +1,7 @@
 -- What is known of the tour that the rules give, as laws from one move to the next: for code that makes it move by move, and for theorems about it.
 use Rattle.std.proofs.Common.{◌≡◌, ℕ, ◌+◌, ◌*◌, ◌<◌, ◌≤◌, true, false, [], ◌∷◌, sym, refl, ap, ◌∙◌, inl, inr, add-one, arith}
 use Rattle.std.proofs.lemmas.Bool.{both_ways, cases_lt}
-use Rattle.board.specs.declared.place.Place.{Place}
+use Rattle.board.specs.Squares.{Place}
 use Rattle.board.specs.Steps.{step}
 use Rattle.board.specs.Counting.{bit}
 use Rattle.board.specs.Floors.{Floor, Lawful}

@@ -2,8 +2,7 @@
 use Rattle.std.proofs.Common.{◌≡◌, ℕ, suc, Bool, true, false, List, [], ◌∷◌, ◌++◌, length, Some, None, Option, sym, refl, ap, ◌∙◌, inl, inr, append_assoc, append-nil, arith, length-append}
 use Rattle.std.proofs.lemmas.Bool.{both_ways, cases_lt}
 use Rattle.board.specs.declared.heading.Heading.{Heading}
-use Rattle.board.specs.declared.megacell.Megacell.{Megacell}
-use Rattle.board.specs.declared.place.Place.{Place}
+use Rattle.board.specs.Squares.{Megacell, Place}
 use Rattle.board.specs.Floors.{Floor}
 use Rattle.tour.specs.History.{parent, home, entered}
 use Rattle.tour.specs.Rules.{own, own_exit, neighbour, Move, Allows, cross_back, turn_absent, turn_old, cross_new, turn_closed, is_parent, absent_or_old, ruled, next_move, OneNext}

@@ -1,8 +1,7 @@
 -- Floors worked by hand: the laws of a floor can be met, and on small floors the rules give the tours that a technician would draw.
 use Rattle.std.specs.Prelude.{◌≡◌, ℕ, ◌+◌, ◌*◌, Bool, true, false, ◌&&◌, ◌||◌, Some, None, codes, Option, ◌==◌}
 use Rattle.std.proofs.Common.{lit<}
-use Rattle.board.specs.declared.megacell.Megacell.{Megacell}
-use Rattle.board.specs.declared.place.Place.{Place}
+use Rattle.board.specs.Squares.{Megacell, Place}
 use Rattle.board.specs.Steps.{beside}
 use Rattle.board.specs.Floors.{Floor, Lawful}
 use Rattle.tour.specs.Ground.{Ground, Number}

@@ -1,9 +1,8 @@
 -- The ground, and how many megacells there are.
 use Rattle.std.specs.Prelude.{◌≡◌, ℕ, ◌≤◌, Bool, true, List, length, Some}
 use Rattle.board.specs.declared.heading.Heading.{Heading}
-use Rattle.board.specs.declared.megacell.Megacell.{Megacell}
-use Rattle.board.specs.declared.place.Place.{Place}
-use Rattle.board.specs.Places.{same_megacell, megacell_of}
+use Rattle.board.specs.Squares.{Megacell, Place, same_square}
+use Rattle.board.specs.Places.{megacell_of}
 use Rattle.board.specs.Steps.{beside}
 use Rattle.board.specs.Counting.{many}
 use Rattle.board.specs.Floors.{Floor}
@@ -15,7 +14,7 @@ pub data Ground (floor : Floor) (s : Place) : Megacell → Type 0 where
 
 -- how often a megacell stands in a list
 abbrev pub listed : Megacell → List Megacell → ℕ
-listed m ms = many (same_megacell m) ms
+listed m ms = many (same_square m) ms
 
 -- k megacells have the property P: they stand in a list of that length, each once, and no other stands there
 pub record Number (P : Megacell → Type 0) (k : ℕ) : Type 0 where

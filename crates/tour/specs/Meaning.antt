@@ -1,7 +1,6 @@
 -- `old` and `parent`, which are computed along a history, are what the two words say.
 use Rattle.std.specs.Prelude.{◌≡◌, true, false, ◌⊎◌, List, ◌∷◌, ◌++◌, Some}
-use Rattle.board.specs.declared.megacell.Megacell.{Megacell}
-use Rattle.board.specs.declared.place.Place.{Place}
+use Rattle.board.specs.Squares.{Megacell, Place}
 use Rattle.board.specs.Places.{megacell_of}
 use Rattle.tour.specs.History.{Has, here, old, parent}
 

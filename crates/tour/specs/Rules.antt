@@ -6,10 +6,9 @@
 -- 3. Else look whether the side at e is open. If it is, cross; if not, turn.
 use Rattle.std.specs.Prelude.{◌≡◌, Bool, true, false, List, Some, None, Option, ◌≢◌}
 use Rattle.board.specs.declared.heading.Heading.{Heading}
-use Rattle.board.specs.declared.megacell.Megacell.{Megacell}
-use Rattle.board.specs.declared.place.Place.{Place}
+use Rattle.board.specs.Squares.{Megacell, Place, same_square}
 use Rattle.board.specs.Headings.{left}
-use Rattle.board.specs.Places.{same_megacell, megacell_of}
+use Rattle.board.specs.Places.{megacell_of}
 use Rattle.board.specs.Corners.{exit}
 use Rattle.board.specs.Steps.{beside}
 use Rattle.board.specs.Floors.{Floor}
@@ -54,7 +53,7 @@ pub data Allows (floor : Floor) (s : Place) (ps : List Place) : Move → Type 0 
 unfoldable pub is_parent : Option Megacell → Option Megacell → Bool
 is_parent None o = false
 is_parent (Some y) None = false
-is_parent (Some y) (Some z) = same_megacell y z
+is_parent (Some y) (Some z) = same_square y z
 
 -- is the neighbour absent or old
 unfoldable pub absent_or_old : Place → List Place → Option Megacell → Bool

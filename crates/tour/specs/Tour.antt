@@ -1,7 +1,7 @@
 -- The tour that the rules give, and what holds of it on every lawful floor, from every start.
 use Rattle.std.specs.Prelude.{◌≡◌, ℕ, zero, suc, ◌+◌, ◌*◌, ◌<◌, ◌≤◌, Bool, true, false, List, [], ◌∷◌, ◌++◌, reverse, length}
 use Rattle.board.specs.declared.heading.Heading.{Heading}
-use Rattle.board.specs.declared.place.Place.{Place}
+use Rattle.board.specs.Squares.{Place}
 use Rattle.board.specs.Headings.{letter}
 use Rattle.board.specs.Places.{megacell_of}
 use Rattle.board.specs.Steps.{step}

@@ -1,6 +1,5 @@
 ghost use Rattle.std.specs.Prelude.{◌≡◌, ℕ, [], length, slice_index_or, slice_set};
-ghost use Rattle.board.specs.Places.{number_of};
-ghost use Rattle.board.specs.declared.megacell.Megacell.{Megacell};
+ghost use Rattle.board.specs.Squares.{number_of, Megacell};
 ghost use Rattle.sweep.specs.declared.mark.Mark.TheVariants.{New};
 ghost use Rattle.sweep.specs.Table.{mark_at, leads, look_if_new, choice, Says};
 

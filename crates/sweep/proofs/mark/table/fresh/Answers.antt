@@ -1,6 +1,6 @@
 use Rattle.std.proofs.Common.{◌≡◌, List, [], length, set, sym, ap, ◌∙◌, subst, length-set}
-use Rattle.board.specs.Places.{number_of, megacell_of}
-use Rattle.board.specs.declared.megacell.Megacell.{Megacell}
+use Rattle.board.specs.Squares.{number_of, Megacell}
+use Rattle.board.specs.Places.{megacell_of}
 use Rattle.sweep.specs.declared.mark.Mark.{Mark}
 use Rattle.sweep.specs.declared.mark.Mark.TheVariants.{Root}
 use Rattle.sweep.proofs.Following.{Tells, fresh_marks_stand}

@@ -1,6 +1,5 @@
 use Rattle.std.proofs.Common.{false, [], refl, subst}
-use Rattle.board.specs.declared.megacell.Megacell.{Megacell}
-use Rattle.board.specs.declared.place.Place.{Place}
+use Rattle.board.specs.Squares.{Megacell, Place}
 use Rattle.sweep.specs.Table.{mark_at, Says}
 use Rattle.sweep.specs.Single.{Begun}
 use Rattle.sweep.proofs.Telling.{journey_at_start, chart_at_start}

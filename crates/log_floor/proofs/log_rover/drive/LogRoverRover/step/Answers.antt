@@ -5,10 +5,10 @@ use Rattle.log_floor.proofs.log_rover.drive.LogRoverRover.step.Goals as goal
 
 pub returns-then-is_passable : goal.returns-then-is_passable
 returns-then-is_passable g c =
-    let k = pass (floor_of (g.L.Records.told c.args.self.now.log)) c.args.self.now.place c.in-Some.next c.args.heading (sym c.ahead.ensures ∙ c.in-Some.is) (sym c.is_passable.ensures ∙ c.if-is_passable.true) in
+    let k = pass (floor_of (g.L.Records.told c.args.self.now.log)) c.args.self.now.place c.in-Some.next c.args.heading (sym c.beside.ensures ∙ c.in-Some.is) (sym c.is_passable.ensures ∙ c.if-is_passable.true) in
     search rules
 
 pub returns-else-is_passable : goal.returns-else-is_passable
 returns-else-is_passable g c =
-    let k = block (floor_of (g.L.Records.told c.args.self.now.log)) c.args.self.now.place c.in-Some.next c.args.heading (sym c.ahead.ensures ∙ c.in-Some.is) (sym c.is_passable.ensures ∙ c.if-is_passable.false) in
+    let k = block (floor_of (g.L.Records.told c.args.self.now.log)) c.args.self.now.place c.in-Some.next c.args.heading (sym c.beside.ensures ∙ c.in-Some.is) (sym c.is_passable.ensures ∙ c.if-is_passable.false) in
     search rules
