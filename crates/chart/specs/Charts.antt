@@ -1,7 +1,8 @@
 -- What a chart holds. Place (r, c) has slot 64r + c; slots from 4,096 on are not the chart's.
 use Rattle.std.specs.Prelude.{◌≡◌, ℕ, ◌<◌, ◌≤◌, List, length, Some, None, Option, slice_index_or}
 use Rattle.fault.specs.declared.layer.Layer.TheVariants.{Chart}
-use Rattle.fault.specs.Refusals.{Refusal, refused}
+use Rattle.fault.specs.declared.refusal.Refusal.{Refusal}
+use Rattle.fault.specs.Refusals.{refused}
 use Rattle.board.specs.Squares.{Place}
 use Rattle.board.specs.Places.{slot_of}
 use Rattle.chart.specs.declared.faults.ChartFault.{ChartFault}

@@ -2,26 +2,41 @@
 #![tactic(auto)]
 
 ghost use Rattle.std.specs.Prelude.{◌≡◌};
-ghost use Rattle.fault.specs.Refusals.{Refusal};
+ghost use Rattle.fault.specs.declared.refusal.Refusal.{Refusal as Told};
 
 pub mod layer;
+pub mod refusal;
 
 use layer::Layer;
+use refusal::Refusal;
 
-/// A refusal: it has a number, a layer and a place. What the place counts (an offset, a record, a slot, a number
-/// of bytes) belongs to the number.
+/// Why something is refused. Each fault tells a refusal: its number, its layer and its place.
 pub trait Fault {
-    ghost tells: { Self → Refusal };
+    /// the refusal that a fault tells
+    ghost tells: { Self → Told };
+
+    /// The refusal that it tells.
+    fn refusal(&self) -> Refusal
+        ensures { result ≡ tells self.now };
 
     /// The number of the refusal, 1 to 17.
-    fn number(&self) -> u8
-        ensures { result ≡ (tells self.now).number };
+    final fn number(&self) -> u8
+        ensures { result ≡ (tells self.now).number }
+    {
+        self.refusal().number
+    }
 
     /// The layer that refuses.
-    fn layer(&self) -> Layer
-        ensures { result ≡ (tells self.now).layer };
+    final fn layer(&self) -> Layer
+        ensures { result ≡ (tells self.now).layer }
+    {
+        self.refusal().layer
+    }
 
     /// Where, or how much.
-    fn place(&self) -> usize
-        ensures { result ≡ (tells self.now).place };
+    final fn place(&self) -> usize
+        ensures { result ≡ (tells self.now).place }
+    {
+        self.refusal().place
+    }
 }

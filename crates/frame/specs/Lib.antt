@@ -1,5 +1,7 @@
 pub mod Frames
+pub mod Laws
 pub mod Skipped
+pub mod Composing
 pub mod Numbered
 pub mod Mirroring
 pub mod Placing

@@ -9,21 +9,22 @@ use Rattle.board.specs.Places.{megacell_of}
 use Rattle.board.specs.Steps.{beside}
 use Rattle.board.proofs.Geometry.{square_path, Steps}
 use Rattle.board.proofs.Neighbours.{Edge}
+use Rattle.frame.specs.Laws.{Keeps}
 use Rattle.frame.specs.Placing.{steps_kept}
 use Rattle.frame.specs.Frames.{mirrored, flipped}
 
-pub mirrored_twice : (p : Place) → mirrored (mirrored p) ≡ p
+mirrored_twice : (p : Place) → mirrored (mirrored p) ≡ p
 unfolding mirrored
 mirrored_twice p = square_path _ p refl (omega arith)
 
-pub flipped_twice : (h : Heading) → flipped (flipped h) ≡ h
+flipped_twice : (h : Heading) → flipped (flipped h) ≡ h
 unfolding flipped
 flipped_twice North = refl
 flipped_twice East = refl
 flipped_twice South = refl
 flipped_twice West = refl
 
-pub mirrored_together : (p q : Place) → megacell_of p ≡ megacell_of q → megacell_of (mirrored p) ≡ megacell_of (mirrored q)
+mirrored_together : (p q : Place) → megacell_of p ≡ megacell_of q → megacell_of (mirrored p) ≡ megacell_of (mirrored q)
 unfolding mirrored megacell_of
 mirrored_together p q e =
     let r : p.row / 2 ≡ q.row / 2 = ap (λ (m : Megacell). m.row) e in
@@ -44,5 +45,16 @@ moves p q East e = omega arith
 moves p q South e = omega arith
 moves p q West e = omega arith
 
-pub mirrored_steps : (p : Place) (h : Heading) → beside (mirrored p) (flipped h) ≡ option_map mirrored (beside p h)
+mirrored_steps : (p : Place) (h : Heading) → beside (mirrored p) (flipped h) ≡ option_map mirrored (beside p h)
 mirrored_steps = steps_kept mirrored flipped edges moves
+
+pub mirror_keeps : Keeps mirrored mirrored flipped flipped
+mirror_keeps = record {
+  undone = mirrored_twice;
+  redone = mirrored_twice;
+  undoes = flipped_twice;
+  redoes = flipped_twice;
+  together = mirrored_together;
+  rejoined = mirrored_together;
+  steps = mirrored_steps;
+}

@@ -1,7 +1,8 @@
 -- The eight frames that have a number.
 use Rattle.std.specs.Prelude.{◌≡◌, ℕ, ◌%◌, ◌≤◌, cond, Some, None, Option, nat_le}
 use Rattle.fault.specs.declared.layer.Layer.TheVariants.{Survey}
-use Rattle.fault.specs.Refusals.{Refusal, refused}
+use Rattle.fault.specs.declared.refusal.Refusal.{Refusal}
+use Rattle.fault.specs.Refusals.{refused}
 use Rattle.board.specs.declared.heading.Heading.{Heading}
 use Rattle.board.specs.Squares.{Place}
 use Rattle.board.specs.Headings.{left, right}

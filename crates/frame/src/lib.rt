@@ -2,11 +2,9 @@
 #![tactic(auto)]
 
 ghost use Rattle.std.specs.Prelude.{◌≡◌};
-ghost use Rattle.std.specs.Option.{option_map};
 ghost use Rattle.board.specs.declared.heading.Heading.{Heading};
 ghost use Rattle.board.specs.Squares.{Place};
-ghost use Rattle.board.specs.Places.{megacell_of};
-ghost use Rattle.board.specs.Steps.{beside};
+ghost use Rattle.frame.specs.Laws.{Keeps};
 
 pub mod faults;
 pub mod known;
@@ -49,21 +47,6 @@ pub trait Frame {
     fn heading_below(&self, heading: Heading) -> Heading
         ensures { result ≡ restored self.now heading };
 
-    /// the inverse undoes the frame, on places and on headings, from either side
-    ghost undone: { (f : Self) (p : Place) → returned f (taken f p) ≡ p };
-
-    ghost redone: { (f : Self) (p : Place) → taken f (returned f p) ≡ p };
-
-    ghost undoes: { (f : Self) (h : Heading) → restored f (turned f h) ≡ h };
-
-    ghost redoes: { (f : Self) (h : Heading) → turned f (restored f h) ≡ h };
-
-    /// places that share a megacell share one afterwards, by the frame and by its inverse
-    ghost together: { (f : Self) (p q : Place) → megacell_of p ≡ megacell_of q → megacell_of (taken f p) ≡ megacell_of (taken f q) };
-
-    ghost rejoined: { (f : Self) (p q : Place) → megacell_of p ≡ megacell_of q → megacell_of (returned f p) ≡ megacell_of (returned f q) };
-
-    /// it makes no difference whether a step comes before the frame or, by the turned heading, after it; a step off the
-    /// board is one in both
-    ghost steps: { (f : Self) (p : Place) (h : Heading) → beside (taken f p) (turned f h) ≡ option_map (taken f) (beside p h) };
+    /// every frame keeps the laws of frames
+    ghost keeps: { (f : Self) → Keeps (taken f) (returned f) (turned f) (restored f) };
 }

@@ -1,6 +1,6 @@
 ghost use Rattle.std.specs.Prelude.{◌≡◌};
 ghost use Rattle.frame.specs.Frames.{mirrored, flipped};
-ghost use Rattle.frame.specs.Mirroring.{mirrored_twice, flipped_twice, mirrored_together, mirrored_steps};
+ghost use Rattle.frame.specs.Mirroring.{mirror_keeps};
 
 use super::Frame;
 use board::heading::Heading;
@@ -8,18 +8,16 @@ use board::place::Place;
 
 /// The mirror: it takes (r, c) to (r, 63 - c), exchanges east and west, and keeps north and south.
 /// It is its own inverse.
-#[derive(Clone, Copy, Debug)]
+#[derive(Clone, Copy, Debug, PartialEq, Eq)]
 pub struct Mirror;
 
 fn mirror_place(place: Place) -> Place
     ensures { result ≡ mirrored place }
 {
-    match Place::new(place.row(), 63 - place.column()) {
-        Some(taken) => taken,
-        None => unreachable(),
-    }
+    Place::new(place.row(), 63 - place.column()).unwrap()
 }
 
+#[tactic(auto, unfolding(crate::specs::Frames::flipped))]
 fn mirror_heading(heading: Heading) -> Heading
     ensures { result ≡ flipped heading }
 {
@@ -40,19 +38,7 @@ impl Frame for Mirror {
 
     ghost restored = { λ _. flipped };
 
-    ghost undone = { λ f p. mirrored_twice p };
-
-    ghost redone = { λ f p. mirrored_twice p };
-
-    ghost undoes = { λ f h. flipped_twice h };
-
-    ghost redoes = { λ f h. flipped_twice h };
-
-    ghost together = { λ f p q e. mirrored_together p q e };
-
-    ghost rejoined = { λ f p q e. mirrored_together p q e };
-
-    ghost steps = { λ f p h. mirrored_steps p h };
+    ghost keeps = { λ _. mirror_keeps };
 
     fn place(&self, place: Place) -> Place {
         mirror_place(place)

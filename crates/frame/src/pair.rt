@@ -1,12 +1,12 @@
 ghost use Rattle.std.specs.Prelude.{◌≡◌};
-ghost use Rattle.std.proofs.Common.{rules};
+ghost use Rattle.frame.specs.Composing.{both_keep};
 
 use super::Frame;
 use board::heading::Heading;
 use board::place::Place;
 
 /// A frame followed by another.
-#[derive(Clone, Copy, Debug)]
+#[derive(Clone, Copy, Debug, PartialEq, Eq)]
 pub struct Pair<F, G> {
     pub first: F,
     pub then: G,
@@ -21,19 +21,7 @@ impl<F: Frame, G: Frame> Frame for Pair<F, G> {
 
     ghost restored = { λ s h. F.Frame.restored s.first (G.Frame.restored s.then h) };
 
-    ghost undone = { Prim.search rules };
-
-    ghost redone = { Prim.search rules };
-
-    ghost undoes = { Prim.search rules };
-
-    ghost redoes = { Prim.search rules };
-
-    ghost together = { Prim.search rules };
-
-    ghost rejoined = { Prim.search rules };
-
-    ghost steps = { Prim.search rules };
+    ghost keeps = { λ s. both_keep (F.Frame.keeps s.first) (G.Frame.keeps s.then) };
 
     fn place(&self, place: Place) -> Place {
         self.then.place(self.first.place(place))

@@ -1,6 +1,6 @@
 ghost use Rattle.std.specs.Prelude.{◌≡◌};
 ghost use Rattle.frame.specs.Skipped.{passed};
-ghost use Rattle.std.proofs.Common.{rules};
+ghost use Rattle.frame.specs.Composing.{passed_keeps};
 
 use super::Frame;
 use board::heading::Heading;
@@ -16,19 +16,7 @@ impl<F: Frame> Frame for Option<F> {
 
     ghost restored = { λ s h. passed F.Frame.restored s h };
 
-    ghost undone = { Prim.search rules };
-
-    ghost redone = { Prim.search rules };
-
-    ghost undoes = { Prim.search rules };
-
-    ghost redoes = { Prim.search rules };
-
-    ghost together = { Prim.search rules };
-
-    ghost rejoined = { Prim.search rules };
-
-    ghost steps = { Prim.search rules };
+    ghost keeps = { passed_keeps F.Frame.taken F.Frame.returned F.Frame.turned F.Frame.restored F.Frame.keeps };
 
     fn place(&self, place: Place) -> Place {
         match self {

@@ -9,8 +9,8 @@ use Rattle.board.specs.Places.{megacell_of}
 use Rattle.board.specs.Corners.{subcell, exit}
 use Rattle.board.specs.Steps.{beside}
 use Rattle.board.specs.Floors.{Floor, SameFromBoth, ClosedAtEdge, Passes}
-use Rattle.board.proofs.Geometry.{megacell_subcell, exit_subcell, Steps, some_steps, cross_beside}
-use Rattle.board.proofs.Neighbours.{beside_back, beside_inj, none_of_megacell, none_of_subcell, left_megacell}
+use Rattle.board.proofs.Geometry.{megacell_subcell, exit_subcell, Steps, some_steps, cross_beside, beside_back, beside_inj}
+use Rattle.board.proofs.Neighbours.{none_of_megacell, none_of_subcell, left_megacell}
 use Rattle.frame.specs.declared.Frame.{Ghosts}
 use Rattle.rover.specs.Drive.{Blocked}
 use Rattle.framed.specs.Seen.{megacell_below, seen_floor}

@@ -1,7 +1,8 @@
 -- Worked logs, and what the rules say of each.
 use Rattle.std.specs.Prelude.{◌≡◌, ℕ, List, [], ◌∷◌, Some, None, Option}
 use Rattle.fault.specs.declared.layer.Layer.TheVariants.{Log}
-use Rattle.fault.specs.Refusals.{Refusal, refused}
+use Rattle.fault.specs.declared.refusal.Refusal.{Refusal}
+use Rattle.fault.specs.Refusals.{refused}
 use Rattle.log_record.specs.declared.faults.LogFault.{LogFault}
 use Rattle.log_record.specs.Faults.{told}
 use Rattle.log_format.specs.Log.{refusal}

@@ -1,6 +1,7 @@
 -- What each refusal of a log tells: its number, and its place, which is a record, 0 standing for the header or for none.
 use Rattle.fault.specs.declared.layer.Layer.TheVariants.{Log}
-use Rattle.fault.specs.Refusals.{Refusal, refused}
+use Rattle.fault.specs.declared.refusal.Refusal.{Refusal}
+use Rattle.fault.specs.Refusals.{refused}
 use Rattle.log_record.specs.declared.faults.LogFault.{LogFault}
 use Rattle.log_record.specs.declared.faults.LogFault.TheVariants.{WrongLength, BadHeader, IndexBeyond, BadRecord, SecondRecord, StartUntold}
 

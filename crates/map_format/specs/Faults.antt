@@ -1,6 +1,7 @@
 -- What a refused map tells: the number of the refusal, and its place.
 use Rattle.fault.specs.declared.layer.Layer.TheVariants.{Map}
-use Rattle.fault.specs.Refusals.{Refusal, refused}
+use Rattle.fault.specs.declared.refusal.Refusal.{Refusal}
+use Rattle.fault.specs.Refusals.{refused}
 use Rattle.map_format.specs.declared.faults.MapFault.{MapFault}
 use Rattle.map_format.specs.declared.faults.MapFault.TheVariants.{Length, ForbiddenByte, BadRow, ExtraRow, NoStart, SecondStart}
 

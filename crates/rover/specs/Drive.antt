@@ -1,7 +1,8 @@
 -- What a rover's calls do.
 use Rattle.std.specs.Prelude.{ℕ, ◌+◌, min}
 use Rattle.fault.specs.declared.layer.Layer.TheVariants.{Rover}
-use Rattle.fault.specs.Refusals.{Refusal, refused}
+use Rattle.fault.specs.declared.refusal.Refusal.{Refusal}
+use Rattle.fault.specs.Refusals.{refused}
 use Rattle.board.specs.declared.heading.Heading.{Heading}
 use Rattle.board.specs.Squares.{Place}
 use Rattle.board.specs.Floors.{Floor, Passes}

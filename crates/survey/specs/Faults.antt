@@ -1,5 +1,5 @@
 -- What a refusal of a survey tells: the lower layer's refusal is whole inside, and tells for itself.
-use Rattle.fault.specs.Refusals.{Refusal}
+use Rattle.fault.specs.declared.refusal.Refusal.{Refusal}
 use Rattle.frame.specs.Numbered.{told as told_by_frame}
 use Rattle.map_format.specs.Faults.{told as told_by_map}
 use Rattle.log_record.specs.Faults.{told as told_by_log}

@@ -1,6 +1,7 @@
 -- What a refusal of a sweep tells.
 use Rattle.fault.specs.declared.layer.Layer.TheVariants.{Sweep}
-use Rattle.fault.specs.Refusals.{Refusal, refused}
+use Rattle.fault.specs.declared.refusal.Refusal.{Refusal}
+use Rattle.fault.specs.Refusals.{refused}
 use Rattle.chart.specs.Charts.{told as told_by_chart}
 use Rattle.rover.specs.Drive.{told as told_by_rover}
 use Rattle.sweep.specs.declared.faults.SweepFault.{SweepFault}
