@@ -1,12 +1,24 @@
-ghost use Rattle.std.specs.Prelude.{◌≡◌, ◌≤◌, length, MatchResult, slice_set};
+ghost use Rattle.std.specs.Prelude.{◌≡◌, ◌≤◌, length, Some, MatchResult, slice_set};
 ghost use Rattle.std.specs.Option.{option_map};
 ghost use Rattle.board.specs.Places.{slot_of};
-ghost use Rattle.chart.specs.declared.slot.Slot.TheVariants.{Holds};
-ghost use Rattle.chart.specs.Charts.{reading, slot_at, Blank, SameBeyond, TooFew};
+ghost use Rattle.chart.specs.Charts.{slot_at, Blank, SameBeyond, TooFew};
 
 use crate::faults::ChartFault;
 use crate::slot::Slot;
 use board::place::Place;
+
+/// The slots of a chart: one for each place of the board.
+pub const SLOTS: usize = 4096;
+
+/// Refuses slots that are too few for a chart.
+pub fn need<T>(slots: &[Slot<T>]) -> Result<(), ChartFault>
+    ensures { MatchResult result (λ _. 4096 ≤ length slots.now) (λ e. TooFew (length slots.now) e) }
+{
+    if slots.len() < SLOTS {
+        return Err(ChartFault::Short { slots: slots.len() });
+    }
+    Ok(())
+}
 
 /// Empties the chart: its first 4,096 slots.
 pub fn empty<T: Drop>(slots: &mut [Slot<T>]) -> Result<(), ChartFault>
@@ -14,39 +26,28 @@ pub fn empty<T: Drop>(slots: &mut [Slot<T>]) -> Result<(), ChartFault>
         (λ _. Blank slots.new × SameBeyond slots.old slots.new)
         (λ e. TooFew (length slots.old) e × (slots.new ≡ slots.old)) }
 {
-    if slots.len() < 4096 {
-        return Err(ChartFault::Short { slots: slots.len() });
-    }
-    for i in 0..4096 {
-        slots[i] = Slot::Empty;
-    }
+    need(slots)?;
+    slots[..SLOTS].fill_with(|| None);
     Ok(())
 }
 
 /// The reading at a place; none where its slot is empty.
 pub fn at<T>(slots: &[Slot<T>], place: Place) -> Result<Option<&T>, ChartFault>
     ensures { MatchResult result
-        (λ o. (4096 ≤ length slots.now) × (option_map (λ x. x.now) o ≡ reading (slot_at slots.now place)))
+        (λ o. (4096 ≤ length slots.now) × (option_map (λ x. x.now) o ≡ slot_at slots.now place))
         (λ e. TooFew (length slots.now) e) }
 {
-    if slots.len() < 4096 {
-        return Err(ChartFault::Short { slots: slots.len() });
-    }
-    match &slots[place.slot()] {
-        Slot::Empty => Ok(None),
-        Slot::Holds(reading) => Ok(Some(reading)),
-    }
+    need(slots)?;
+    Ok(slots[place.slot()].as_ref())
 }
 
 /// Puts a reading into the slot of a place.
 pub fn put<T: Drop>(slots: &mut [Slot<T>], place: Place, reading: T) -> Result<(), ChartFault>
     ensures { MatchResult result
-        (λ _. (4096 ≤ length slots.old) × (slots.new ≡ slice_set slots.old (slot_of place) (Holds reading)))
+        (λ _. (4096 ≤ length slots.old) × (slots.new ≡ slice_set slots.old (slot_of place) (Some reading)))
         (λ e. TooFew (length slots.old) e × (slots.new ≡ slots.old)) }
 {
-    if slots.len() < 4096 {
-        return Err(ChartFault::Short { slots: slots.len() });
-    }
-    slots[place.slot()] = Slot::Holds(reading);
+    need(slots)?;
+    slots[place.slot()] = Some(reading);
     Ok(())
 }

@@ -1,10 +1,6 @@
-use Rattle.std.proofs.Common.{◌<◌, ◌≢◌, length, arith, get_or-set_other, get_or-set_same, below_more}
+use Rattle.std.proofs.Common.{None, rules}
+use Rattle.chart.proofs.Filling.{all_filled, emptied}
 use Rattle.chart.proofs.slots.empty.Goals as goal
 
-pub loop-i-preserved : goal.loop-i-preserved
-loop-i-preserved g c = (
-  below_more _ _
-      (λ k h. let ne : k ≢ c.loop-i.i = omega arith in rw get_or-set_other (c.loop-i.invariant.0 k h))
-      (let lt : c.loop-i.i < length c.loop-i.slots = omega arith in rw get_or-set_same),
-  λ k h. let ne : k ≢ c.loop-i.i = omega arith in rw get_or-set_other (c.loop-i.invariant.1 k h),
-)
+pub returns : goal.returns
+returns g c = emptied c.args.slots.now c.fill_with.new.self c.fill_with.ensures.len c.in_ok-need.ensures (all_filled _ None (λ p x q k. search rules) _ _ _ c.fill_with.ensures.ran.1)
