@@ -11,39 +11,9 @@ use Rattle.board.specs.Steps.{beside}
 use Rattle.board.specs.Floors.{Floor, SameFromBoth, ClosedAtEdge, Passes}
 use Rattle.board.proofs.Geometry.{megacell_subcell, exit_subcell, Steps, some_steps, cross_beside, beside_back, beside_inj}
 use Rattle.board.proofs.Neighbours.{none_of_megacell, none_of_subcell, left_megacell}
-use Rattle.frame.specs.declared.Frame.{Ghosts}
+use Rattle.frame.specs.Laws.{Keeps}
 use Rattle.rover.specs.Drive.{Blocked}
 use Rattle.framed.specs.Seen.{megacell_below, seen_floor}
-
--- the laws of a frame, of the four functions that it is
-pub record Keeps (taken returned : Place → Place) (turned restored : Heading → Heading) : Type 0 where
-  pub undone : (p : Place) → returned (taken p) ≡ p
-  pub redone : (p : Place) → taken (returned p) ≡ p
-  pub undoes : (h : Heading) → restored (turned h) ≡ h
-  pub redoes : (h : Heading) → turned (restored h) ≡ h
-  pub together : (p q : Place) → megacell_of p ≡ megacell_of q → megacell_of (taken p) ≡ megacell_of (taken q)
-  pub rejoined : (p q : Place) → megacell_of p ≡ megacell_of q → megacell_of (returned p) ≡ megacell_of (returned q)
-  pub steps : (p : Place) (h : Heading) → beside (taken p) (turned h) ≡ option_map taken (beside p h)
-
--- a frame keeps them, where each of its laws holds of every frame of its kind
-pub kept : {F : Type 0} (G : Ghosts F)
-    → ((f : F) (p : Place) → G.returned f (G.taken f p) ≡ p)
-    → ((f : F) (p : Place) → G.taken f (G.returned f p) ≡ p)
-    → ((f : F) (h : Heading) → G.restored f (G.turned f h) ≡ h)
-    → ((f : F) (h : Heading) → G.turned f (G.restored f h) ≡ h)
-    → ((f : F) (p q : Place) → megacell_of p ≡ megacell_of q → megacell_of (G.taken f p) ≡ megacell_of (G.taken f q))
-    → ((f : F) (p q : Place) → megacell_of p ≡ megacell_of q → megacell_of (G.returned f p) ≡ megacell_of (G.returned f q))
-    → ((f : F) (p : Place) (h : Heading) → beside (G.taken f p) (G.turned f h) ≡ option_map (G.taken f) (beside p h))
-    → (f : F) → Keeps (G.taken f) (G.returned f) (G.turned f) (G.restored f)
-kept G undone redone undoes redoes together rejoined steps f = record {
-  undone = undone f;
-  redone = redone f;
-  undoes = undoes f;
-  redoes = redoes f;
-  together = together f;
-  rejoined = rejoined f;
-  steps = steps f;
-}
 
 mapped_undone : (f g : Place → Place) → ((p : Place) → g (f p) ≡ p) → (o : Option Place) → option_map g (option_map f o) ≡ o
 mapped_undone f g e None = refl

@@ -35,29 +35,11 @@ impl<R: Rover, F: Frame> Rover for Framed<R, F> {
 
     ghost sides = { λ s.
         sides_seen (F.Frame.taken s.frame) (F.Frame.returned s.frame) (F.Frame.turned s.frame) (F.Frame.restored s.frame)
-        (record {
-          undone = F.Frame.undone s.frame;
-          redone = F.Frame.redone s.frame;
-          undoes = F.Frame.undoes s.frame;
-          redoes = F.Frame.redoes s.frame;
-          together = F.Frame.together s.frame;
-          rejoined = F.Frame.rejoined s.frame;
-          steps = F.Frame.steps s.frame;
-        })
-        (R.Rover.floor s.below) (R.Rover.sides s.below) };
+        (F.Frame.keeps s.frame) (R.Rover.floor s.below) (R.Rover.sides s.below) };
 
     ghost edge = { λ s.
         edge_seen (F.Frame.taken s.frame) (F.Frame.returned s.frame) (F.Frame.turned s.frame) (F.Frame.restored s.frame)
-        (record {
-          undone = F.Frame.undone s.frame;
-          redone = F.Frame.redone s.frame;
-          undoes = F.Frame.undoes s.frame;
-          redoes = F.Frame.redoes s.frame;
-          together = F.Frame.together s.frame;
-          rejoined = F.Frame.rejoined s.frame;
-          steps = F.Frame.steps s.frame;
-        })
-        (R.Rover.floor s.below) (R.Rover.edge s.below) };
+        (F.Frame.keeps s.frame) (R.Rover.floor s.below) (R.Rover.edge s.below) };
 
     fn look(&mut self, heading: Heading) -> bool {
         let below = self.frame.heading_below(heading);
@@ -67,13 +49,10 @@ impl<R: Rover, F: Frame> Rover for Framed<R, F> {
     fn step(&mut self, heading: Heading) -> Result<(), RoverFault> {
         let place = self.frame.place(self.below.place());
         let below = self.frame.heading_below(heading);
-        match self.below.step(below) {
-            Ok(()) => Ok(()),
-            Err(_) => Err(RoverFault::Closed {
-                slot: place.slot(),
-                heading,
-            }),
-        }
+        self.below.step(below).map_err(|_| RoverFault::Closed {
+            slot: place.slot(),
+            heading,
+        })
     }
 
     fn read(&self) -> R::Reading {
