@@ -1,4 +1,3 @@
 pub mod Lights
 pub mod Floor
-pub mod Start
 pub mod Passing

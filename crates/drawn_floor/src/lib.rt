@@ -1,6 +1,5 @@
-//! The drawn floor: a meter rover on the floor that a map draws.
+//! The drawn floor: the floor that a map draws, and a meter rover on it.
 #![tactic(auto)]
 
-pub mod drawn_rover;
-mod floor;
+pub mod floor;
 pub mod light;

@@ -4,26 +4,32 @@ ghost use Rattle.survey.specs.Faults.{told};
 
 use chart::faults::ChartFault;
 use fault::Fault;
-use fault::layer::Layer;
+use fault::refusal::Refusal;
 use frame::faults::FrameFault;
 use log_record::faults::LogFault;
 use map_format::faults::MapFault;
 use rover::faults::RoverFault;
 use sheet::faults::SheetFault;
-use std::error::Error;
-use std::fmt;
 use sweep::faults::SweepFault;
+use thiserror::Error;
 
 /// Why a survey is refused. The fault of the layer that refuses is whole inside.
-#[derive(Clone, Copy, Debug)]
+#[derive(Clone, Copy, Debug, PartialEq, Eq, Error)]
 pub enum SurveyFault {
     /// No frame has the number.
+    #[error(transparent)]
     Frame(FrameFault),
+    #[error(transparent)]
     Map(MapFault),
+    #[error(transparent)]
     Log(LogFault),
+    #[error(transparent)]
     Chart(ChartFault),
+    #[error(transparent)]
     Rover(RoverFault),
+    #[error(transparent)]
     Sweep(SweepFault),
+    #[error(transparent)]
     Sheet(SheetFault),
 }
 
@@ -86,55 +92,15 @@ impl From<SheetFault> for SurveyFault {
 impl Fault for SurveyFault {
     ghost tells = { told };
 
-    fn number(&self) -> u8 {
+    fn refusal(&self) -> Refusal {
         match self {
-            SurveyFault::Frame(fault) => fault.number(),
-            SurveyFault::Map(fault) => fault.number(),
-            SurveyFault::Log(fault) => fault.number(),
-            SurveyFault::Chart(fault) => fault.number(),
-            SurveyFault::Rover(fault) => fault.number(),
-            SurveyFault::Sweep(fault) => fault.number(),
-            SurveyFault::Sheet(fault) => fault.number(),
-        }
-    }
-
-    fn layer(&self) -> Layer {
-        match self {
-            SurveyFault::Frame(fault) => fault.layer(),
-            SurveyFault::Map(fault) => fault.layer(),
-            SurveyFault::Log(fault) => fault.layer(),
-            SurveyFault::Chart(fault) => fault.layer(),
-            SurveyFault::Rover(fault) => fault.layer(),
-            SurveyFault::Sweep(fault) => fault.layer(),
-            SurveyFault::Sheet(fault) => fault.layer(),
-        }
-    }
-
-    fn place(&self) -> usize {
-        match self {
-            SurveyFault::Frame(fault) => fault.place(),
-            SurveyFault::Map(fault) => fault.place(),
-            SurveyFault::Log(fault) => fault.place(),
-            SurveyFault::Chart(fault) => fault.place(),
-            SurveyFault::Rover(fault) => fault.place(),
-            SurveyFault::Sweep(fault) => fault.place(),
-            SurveyFault::Sheet(fault) => fault.place(),
+            SurveyFault::Frame(fault) => fault.refusal(),
+            SurveyFault::Map(fault) => fault.refusal(),
+            SurveyFault::Log(fault) => fault.refusal(),
+            SurveyFault::Chart(fault) => fault.refusal(),
+            SurveyFault::Rover(fault) => fault.refusal(),
+            SurveyFault::Sweep(fault) => fault.refusal(),
+            SurveyFault::Sheet(fault) => fault.refusal(),
         }
     }
 }
-
-impl fmt::Display for SurveyFault {
-    fn fmt<W: fmt::Write>(&self, f: &mut fmt::Formatter<W>) -> fmt::Result {
-        match self {
-            SurveyFault::Frame(fault) => write!(f, "{fault}"),
-            SurveyFault::Map(fault) => write!(f, "{fault}"),
-            SurveyFault::Log(fault) => write!(f, "{fault}"),
-            SurveyFault::Chart(fault) => write!(f, "{fault}"),
-            SurveyFault::Rover(fault) => write!(f, "{fault}"),
-            SurveyFault::Sweep(fault) => write!(f, "{fault}"),
-            SurveyFault::Sheet(fault) => write!(f, "{fault}"),
-        }
-    }
-}
-
-impl Error for SurveyFault {}

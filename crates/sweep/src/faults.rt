@@ -5,18 +5,21 @@ ghost use Rattle.sweep.specs.Faults.{told};
 use chart::faults::ChartFault;
 use fault::Fault;
 use fault::layer::Layer;
+use fault::refusal::Refusal;
 use rover::faults::RoverFault;
-use std::error::Error;
-use std::fmt;
+use thiserror::Error;
 
 /// Why a sweep does not move.
-#[derive(Clone, Copy, Debug)]
+#[derive(Clone, Copy, Debug, PartialEq, Eq, Error)]
 pub enum SweepFault {
     /// The chart refuses: its slots are too few.
+    #[error(transparent)]
     Chart(ChartFault),
     /// An advance is asked of a sweep that is home already.
+    #[error("the sweep is home already")]
     Home,
     /// The rover refuses the step. No sweep that was started ever meets this.
+    #[error(transparent)]
     Rover(RoverFault),
 }
 
@@ -39,39 +42,11 @@ impl From<RoverFault> for SweepFault {
 impl Fault for SweepFault {
     ghost tells = { told };
 
-    fn number(&self) -> u8 {
+    fn refusal(&self) -> Refusal {
         match self {
-            SweepFault::Chart(fault) => fault.number(),
-            SweepFault::Home => 14,
-            SweepFault::Rover(fault) => fault.number(),
-        }
-    }
-
-    fn layer(&self) -> Layer {
-        match self {
-            SweepFault::Chart(fault) => fault.layer(),
-            SweepFault::Home => Layer::Sweep,
-            SweepFault::Rover(fault) => fault.layer(),
-        }
-    }
-
-    fn place(&self) -> usize {
-        match self {
-            SweepFault::Chart(fault) => fault.place(),
-            SweepFault::Home => 0,
-            SweepFault::Rover(fault) => fault.place(),
+            SweepFault::Chart(fault) => fault.refusal(),
+            SweepFault::Home => Refusal::new(14, Layer::Sweep, 0),
+            SweepFault::Rover(fault) => fault.refusal(),
         }
     }
 }
-
-impl fmt::Display for SweepFault {
-    fn fmt<W: fmt::Write>(&self, f: &mut fmt::Formatter<W>) -> fmt::Result {
-        match self {
-            SweepFault::Chart(fault) => write!(f, "{fault}"),
-            SweepFault::Home => write!(f, "the sweep is home already"),
-            SweepFault::Rover(fault) => write!(f, "{fault}"),
-        }
-    }
-}
-
-impl Error for SweepFault {}

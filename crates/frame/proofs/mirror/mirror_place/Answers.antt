@@ -1,6 +1,6 @@
 use Rattle.std.proofs.Common.{ℕ, ◌-◌, ap}
 use Rattle.frame.specs.Frames.{mirrored}
-use Rattle.frame.specs.Placing.{made, there}
+use Rattle.board.proofs.Making.{made, there}
 use Rattle.frame.proofs.mirror.mirror_place.Goals as goal
 
 pub unwrap-requires : goal.unwrap-requires
