@@ -3,7 +3,7 @@ use Rattle.std.proofs.Common.{◌≡◌, ℕ, ◌<◌, true, cond, ltb, List, No
 use Rattle.std.specs.Fmt.{digits}
 use Rattle.firsts.specs.First.{first}
 use Rattle.firsts.proofs.Firsts.{first_here}
-use Rattle.board.specs.Squares.{Place, placed, celled, same_square}
+use Rattle.board.specs.Squares.{Place, placed, celled, same_square, squared}
 use Rattle.board.specs.Counting.{bit, many}
 use Rattle.board.specs.Corners.{exit_of, corner_by, corner_of, exit, subcell}
 use Rattle.board.specs.Floors.{Floor}
@@ -37,7 +37,7 @@ driven_home floor s n text before ends few e = ap (λ o. Sheet (sheet_after floo
 
 -- all that a survey of a map computes with, to be named on an `unfolding` line
 unfoldable whole_survey : ℕ
-unfolding left opposite letter placed celled same_square same_square megacell_of exit_of corner_by corner_of exit subcell beside beside step bit many here old parent home walk entered is_parent absent_or_old ruled next_move tour tour_looks letters first mirrored flipped quarter unquarter times megacell_below digit_of tabled megacell_at floor_of old_count lined digits
+unfolding left opposite letter squared same_square megacell_of exit_of corner_by corner_of exit subcell beside step bit many here old parent home walk entered is_parent absent_or_old ruled next_move tour tour_looks letters first mirrored flipped quarter unquarter times megacell_below digit_of tabled megacell_at floor_of old_count lined digits
 whole_survey = 0
 
 -- so does the survey of a map that begins with its S

@@ -1,7 +1,7 @@
 -- The laws of a floor can be met, and the tours of the worked floors, by computation.
 use Rattle.std.proofs.Common.{◌≡◌, ℕ, zero, suc, ◌+◌, ◌*◌, ◌<◌, Bool, true, false, not, ◌&&◌, Option, sym, refl, ap, ◌∙◌, subst, inl, inr, arith}
 use Rattle.std.proofs.lemmas.Bool.{cases_lt, and_parts}
-use Rattle.board.specs.Squares.{Megacell, Place, placed, celled, same_square}
+use Rattle.board.specs.Squares.{Megacell, Place, same_square, squared}
 use Rattle.board.specs.Headings.{left, opposite, letter}
 use Rattle.board.specs.Places.{megacell_of}
 use Rattle.board.specs.Corners.{exit_of, corner_by, corner_of, exit}
@@ -74,7 +74,7 @@ home_by floor law s n looks k l e f size =
 
 -- all that a tour computes with, to be named on an `unfolding` line
 unfoldable whole_tour : ℕ
-unfolding left opposite letter placed celled same_square same_square megacell_of exit_of corner_by corner_of exit beside beside step bit many here old parent home walk entered is_parent absent_or_old ruled next_move tour tour_looks is_free between shut one two three square at11 at33 letters fails_below
+unfolding left opposite letter squared same_square megacell_of exit_of corner_by corner_of exit beside step bit many here old parent home walk entered is_parent absent_or_old ruled next_move tour tour_looks is_free between shut one two three square at11 at33 letters fails_below
 whole_tour = 0
 
 pub worked_floors : WorkedFloors

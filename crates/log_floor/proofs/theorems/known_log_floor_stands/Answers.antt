@@ -1,7 +1,7 @@
 use Rattle.std.proofs.Common.{refl}
 use Rattle.board.specs.Corners.{corner_of, corner_by}
 use Rattle.board.specs.Headings.{opposite, heading_number}
-use Rattle.board.specs.Squares.{placed, celled, same_square}
+use Rattle.board.specs.Squares.{placed, celled, same_square, squared}
 use Rattle.board.specs.Places.{megacell_of}
 use Rattle.board.specs.Steps.{beside}
 use Rattle.firsts.specs.First.{first}
@@ -13,7 +13,7 @@ use Rattle.log_floor.specs.Told.{floor_of, field_of}
 use Rattle.log_floor.proofs.theorems.known_log_floor_stands.Goals as goal
 
 pub returns : goal.returns
-unfolding corner_of corner_by opposite heading_number placed celled megacell_of same_square beside first header_of record_at opens count_at step_of stop record_of floor_of field_of
+unfolding corner_of corner_by opposite heading_number squared megacell_of same_square beside first header_of record_at opens count_at step_of stop record_of floor_of field_of
 returns c =
     record {
       told_open = refl;

@@ -1,5 +1,5 @@
 use Rattle.std.proofs.Common.{refl}
-use Rattle.board.specs.Squares.{placed, celled, same_square}
+use Rattle.board.specs.Squares.{placed, celled, same_square, squared}
 use Rattle.board.specs.Places.{megacell_of}
 use Rattle.firsts.specs.First.{first}
 use Rattle.log_record.specs.Layout.{header_of, record_at}
@@ -8,7 +8,7 @@ use Rattle.log_format.specs.Log.{refusal}
 use Rattle.log_format.proofs.theorems.known_logs_stand.Goals as goal
 
 pub returns : goal.returns
-unfolding placed celled megacell_of same_square first header_of record_at step_of stop refusal
+unfolding squared megacell_of same_square first header_of record_at step_of stop refusal
 returns c =
     record {
       eight_zero_bytes = refl;
