@@ -97,7 +97,7 @@ reach b h long g k (suc j) l =
     let r = s.0 in
     let z : index b j ≡ 0 → ⊥ = λ e. no_record_zero b r (subst (λ i. record_at b i ≡ Some r) e s.1) in
     let n : index b j ≤ h.count = subst (λ n. index b j ≤ n) (sym (header_tells b h g).0) (k.within j (omega arith)) in
-    let w = walked_more b h j (holder b j) (index b j) p.0 r g p.1 z (led_is b h.count (holder b j) (index b j) r n s.1) (p.1.marks r.megacell ∙ fresh b long k j r (omega arith) s.1) in (
+    let w = walked_more g p.1 z (led_is b h.count (holder b j) (index b j) r n s.1) (p.1.marks r.megacell ∙ fresh b long k j r (omega arith) s.1) in (
       set p.0 (number_of r.megacell) true,
       subst (λ i. Walked b i (index b j) (index b (suc j)) (set p.0 (number_of r.megacell) true)) (add-one j)
           (subst (λ i. Walked b (j + 1) (index b j) i (set p.0 (number_of r.megacell) true)) (holds_next b (index b j) r z s.1) w),
@@ -109,7 +109,7 @@ log_accepted b l =
     let m = megacell_of l.header.start in
     let s = l.start in
     let v : visited b m l.long ≡ true = at_some (comes_to b m) l.long s.0 s.1 (tells b s.0 s.2.0 m s.2.1 s.2.2) in
-    ap is_none (walked_end b l.header l.long (holder b l.long) (index b l.long) p.0 true l.read p.1 l.chain.ends (p.1.marks m ∙ v)).0
+    ap is_none (walked_end l.read p.1 l.chain.ends (p.1.marks m ∙ v)).0
 
 pub accepted_exactly : AcceptedExactly
 accepted_exactly b = (accepted_log b, log_accepted b)

@@ -92,6 +92,9 @@ start_of b n e =
 pub walked_start : (b : List ℕ) → Walked b 0 0 (two b 2) (replicate 1024 false)
 walked_start b = start_of b 1024 refl
 
+pub walking_start : {b : List ℕ} {h : Header} {seen : List Bool} → header_of b ≡ Ok h → seen ≡ replicate 1024 false → Walking b 0 h.first seen
+walking_start {b} {h} {seen} g e = (0, subst (λ s. Walked b 0 0 h.first s) (sym e) (subst (λ i. Walked b 0 0 i (replicate 1024 false)) (sym (header_tells b h g).1) (walked_start b)))
+
 -- the walk ends where it stops
 pub stops_at : (b : List ℕ) (j : ℕ) → first (stops b) j ≡ None → j ≤ 1024 → stops b j ≡ true → stop b ≡ j
 unfolding stop
@@ -120,19 +123,19 @@ followed : (b : List ℕ) (h : Header) (j from to : ℕ) (seen : List Bool) (w :
 followed b h j from to seen w e =
     ap (λ n. led b n from to) (header_tells b h e).0 ∙ ap (λ f. led b (two b 0) f to) w.came ∙ ap (led b (two b 0) (holder b (j))) w.goes
 
-pub walked_refused : (b : List ℕ) (h : Header) (j from to : ℕ) (seen : List Bool) (e : LogFault) → header_of b ≡ Ok h → Walked b j from to seen → (to ≡ 0 → ⊥) → Err e ≡ led b h.count from to → Stopped b (Some e)
-walked_refused b h j from to seen e g w z l =
+pub walked_refused : {b : List ℕ} {h : Header} {j from to : ℕ} {seen : List Bool} {e : LogFault} → header_of b ≡ Ok h → Walked b j from to seen → (to ≡ 0 → ⊥) → Err e ≡ led b h.count from to → Stopped b (Some e)
+walked_refused {b} {h} {j} {from} {to} {seen} {e} g w z l =
     at_stop b h j from to seen w (Err e) g (step_refused b (j) e (λ q. z (w.goes ∙ q)) (l ∙ followed b h j from to seen w g)) refl
 
-pub walked_again : (b : List ℕ) (h : Header) (j from to : ℕ) (seen : List Bool) (r : Record) → header_of b ≡ Ok h → Walked b j from to seen → (to ≡ 0 → ⊥) → Ok r ≡ led b h.count from to → get_or seen (number_of r.megacell) false ≡ true → Stopped b (Some (SecondRecord to))
-walked_again b h j from to seen r g w z l t =
+pub walked_again : {b : List ℕ} {h : Header} {j from to : ℕ} {seen : List Bool} {r : Record} → header_of b ≡ Ok h → Walked b j from to seen → (to ≡ 0 → ⊥) → Ok r ≡ led b h.count from to → get_or seen (number_of r.megacell) false ≡ true → Stopped b (Some (SecondRecord to))
+walked_again {b} {h} {j} {from} {to} {seen} {r} g w z l t =
     let v : visited b r.megacell (j) ≡ true = sym (w.marks r.megacell) ∙ t in
     let s = step_comes b (j) r (λ q. z (w.goes ∙ q)) (l ∙ followed b h j from to seen w g) in
     let q : step_of b (j) ≡ Err (SecondRecord to) = s ∙ ap (λ x. cond x (Err (SecondRecord (index b (j)))) (Ok (Some r))) v ∙ ap (λ k. Err (SecondRecord k)) (sym w.goes) in
     at_stop b h j from to seen w (Err (SecondRecord to)) g q refl
 
-pub walked_end : (b : List ℕ) (h : Header) (j from to : ℕ) (seen : List Bool) (t : Bool) → header_of b ≡ Ok h → Walked b j from to seen → to ≡ 0 → get_or seen (number_of (megacell_of h.start)) false ≡ t → Stopped b (cond t None (Some StartUntold))
-walked_end b h j from to seen t g w z s =
+pub walked_end : {b : List ℕ} {h : Header} {j from to : ℕ} {seen : List Bool} {t : Bool} → header_of b ≡ Ok h → Walked b j from to seen → to ≡ 0 → get_or seen (number_of (megacell_of h.start)) false ≡ t → Stopped b (cond t None (Some StartUntold))
+walked_end {b} {h} {j} {from} {to} {seen} {t} g w z s =
     let v : visited b (megacell_of h.start) (j) ≡ t = sym (w.marks (megacell_of h.start)) ∙ s in
     let p = at_stop b h j from to seen w (Ok None) g (step_end b (j) (sym w.goes ∙ z)) refl in
     (p.0 ∙ ap (λ x. cond x None (Some StartUntold)) v, p.1)
@@ -175,8 +178,8 @@ one_less seen m l s =
     let u : ◌≡◌ {A = ℕ} (cond (not (get_or seen (number_of m) false)) 1 0) 1 = simp s in
     omega arith
 
-pub walked_more : (b : List ℕ) (h : Header) (j from to : ℕ) (seen : List Bool) (r : Record) → header_of b ≡ Ok h → Walked b j from to seen → (to ≡ 0 → ⊥) → Ok r ≡ led b h.count from to → get_or seen (number_of r.megacell) false ≡ false → Walked b (j + 1) to r.next (set seen (number_of r.megacell) true)
-walked_more b h j from to seen r g w z l s =
+pub walked_more : {b : List ℕ} {h : Header} {j from to : ℕ} {seen : List Bool} {r : Record} → header_of b ≡ Ok h → Walked b j from to seen → (to ≡ 0 → ⊥) → Ok r ≡ led b h.count from to → get_or seen (number_of r.megacell) false ≡ false → Walked b (j + 1) to r.next (set seen (number_of r.megacell) true)
+walked_more {b} {h} {j} {from} {to} {seen} {r} g w z l s =
     let at : record_at b to ≡ Some r = led_record b h.count from to r l in
     let here : record_at b (index b j) ≡ Some r = subst (λ k. record_at b k ≡ Some r) w.goes at in
     let v : visited b r.megacell j ≡ false = sym (w.marks r.megacell) ∙ s in
@@ -192,5 +195,9 @@ walked_more b h j from to seen r g w z l s =
       left = omega (arith, w.left);
     }
 
-pub walked_less : (seen : List Bool) (m : Megacell) → length seen ≡ 1024 → get_or seen (number_of m) false ≡ false → count_by not (set seen (number_of m) true) < count_by not seen
-walked_less seen m l s = omega (arith, one_less seen m l s)
+-- the same of marks that are given, as the walk's are
+pub walking_more : {b : List ℕ} {h : Header} {from to : ℕ} {seen after : List Bool} {r : Record} → header_of b ≡ Ok h → Walking b from to seen → (to ≡ 0 → ⊥) → Ok r ≡ led b h.count from to → get_or seen (number_of r.megacell) false ≡ false → after ≡ set seen (number_of r.megacell) true → Walking b to r.next after
+walking_more {b} {h} {from} {to} {seen} {after} {r} g w z l s e = subst (λ x. Walking b to r.next x) (sym e) (w.0 + 1, walked_more g w.1 z l s)
+
+pub walking_less : {b : List ℕ} {from to : ℕ} {seen after : List Bool} (m : Megacell) → Walking b from to seen → get_or seen (number_of m) false ≡ false → after ≡ set seen (number_of m) true → count_by not after < count_by not seen
+walking_less {b} {from} {to} {seen} {after} m w s e = subst (λ x. count_by not x < count_by not seen) (sym e) (omega (arith, one_less seen m w.1.long s))

@@ -2,7 +2,7 @@
 //! record of a megacell in an accepted log.
 #![tactic(auto)]
 
+mod chain;
 pub mod log;
-pub mod records;
 pub mod theorems;
-mod walk;
+mod told;

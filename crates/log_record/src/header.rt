@@ -16,6 +16,7 @@ pub struct Header {
 }
 
 /// The header of a log; refused where the length is not a log's, or the header not a header.
+#[tactic(auto, unfolding(crate::specs::Layout::header_of))]
 pub fn read_header(log: &[u8]) -> Result<Header, LogFault>
     ensures { result ≡ header_of log.now }
 {
@@ -40,12 +41,10 @@ pub fn read_header(log: &[u8]) -> Result<Header, LogFault>
     if *spare != 0 || *last_spare != 0 {
         return Err(LogFault::BadHeader);
     }
-    match Place::new(*row, *column) {
-        None => Err(LogFault::BadHeader),
-        Some(start) => Ok(Header {
-            count,
-            first: u16::from_be_bytes([*first_high, *first_low]),
-            start,
-        }),
-    }
+    let start = Place::new(*row, *column).ok_or(LogFault::BadHeader)?;
+    Ok(Header {
+        count,
+        first: u16::from_be_bytes([*first_high, *first_low]),
+        start,
+    })
 }

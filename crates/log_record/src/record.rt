@@ -50,33 +50,33 @@ fn read_record(bytes: &[u8]) -> Option<Record>
     if *sides > 15 {
         return None;
     }
-    match Megacell::new(*row, *column) {
-        None => None,
-        Some(megacell) => Some(Record {
-            next: u16::from_be_bytes([*next_high, *next_low]),
-            megacell,
-            sides: *sides,
-            north_west: u16::from_be_bytes([*nw_high, *nw_low]),
-            north_east: u16::from_be_bytes([*ne_high, *ne_low]),
-            south_west: u16::from_be_bytes([*sw_high, *sw_low]),
-            south_east: u16::from_be_bytes([*se_high, *se_low]),
-        }),
-    }
+    let megacell = Megacell::new(*row, *column)?;
+    Some(Record {
+        next: u16::from_be_bytes([*next_high, *next_low]),
+        megacell,
+        sides: *sides,
+        north_west: u16::from_be_bytes([*nw_high, *nw_low]),
+        north_east: u16::from_be_bytes([*ne_high, *ne_low]),
+        south_west: u16::from_be_bytes([*sw_high, *sw_low]),
+        south_east: u16::from_be_bytes([*se_high, *se_low]),
+    })
 }
 
 /// Record `index` of a log, of which the first is 1; none where the bytes are not there, or hold no record.
+#[tactic(auto, using(crate::proofs::Records::missing, crate::proofs::Records::there))]
 pub fn record_at(log: &[u8], index: u16) -> Option<Record>
     ensures { result ≡ record_at log.now index }
 {
-    let end = 8 + 16 * index as usize;
-    if index == 0 || log.len() < end {
+    if index == 0 {
         return None;
     }
-    read_record(&log[end - 16..end])
+    let end = 8 + 16 * index as usize;
+    read_record(log.get(end - 16..end)?)
 }
 
 impl Record {
     /// Whether the record tells the side at a heading open.
+    #[tactic(auto, unfolding(crate::specs::Tells::opens, board::specs::Headings::heading_number))]
     pub fn opens(&self, heading: Heading) -> bool
         ensures { result ≡ opens self.now heading }
     {
@@ -84,6 +84,7 @@ impl Record {
     }
 
     /// The count read in one of the four subcells.
+    #[tactic(auto, unfolding(crate::specs::Tells::count_at))]
     pub fn count(&self, corner: Corner) -> u16
         ensures { result ≡ count_at self.now corner }
     {

@@ -25,7 +25,6 @@ mod tests {
     use board::heading::Heading;
     use board::megacell::Megacell;
     use log_floor::log_rover::LogRover;
-    use log_format::records::Records;
     use rover::meaning::Rover;
     use std::test::Fail;
 
@@ -102,7 +101,7 @@ mod tests {
     #[test]
     fn along_the_chain(rt: HostRuntime) -> Result<(), Fail> {
         let bytes = backwards(1024, 0);
-        let log = Log::read(&bytes[0..16392]).ok().ok_or("refused")?.log();
+        let log = Log::read(&bytes[0..16392])?;
         assert!(rt; count_of(&log, 31, 31) == 1024);
         assert!(rt; count_of(&log, 16, 0) == 513);
         assert!(rt; count_of(&log, 0, 0) == 1);
@@ -128,7 +127,7 @@ mod tests {
     #[test]
     fn rover_on_a_log(rt: HostRuntime) -> Result<(), Fail> {
         let bytes = two_records(2);
-        let mut rover = LogRover::new(Log::read(&bytes).ok().ok_or("refused")?.log());
+        let mut rover = LogRover::new(Log::read(&bytes)?);
         assert!(rt; rover.place().slot() == 65 && rover.moves() == 0 && rover.looks() == 0);
         assert!(rt; rover.read() == 16);
         assert!(rt; rover.look(Heading::East) && !rover.look(Heading::South));
@@ -143,7 +142,7 @@ mod tests {
     #[test]
     fn one_word(rt: HostRuntime) -> Result<(), Fail> {
         let bytes = two_records(13);
-        let mut rover = LogRover::new(Log::read(&bytes).ok().ok_or("refused")?.log());
+        let mut rover = LogRover::new(Log::read(&bytes)?);
         assert!(rt; !rover.look(Heading::East));
         match rover.step(Heading::East) {
             Ok(()) => return Err(Fail::new("an open side")),

@@ -24,7 +24,7 @@ pub fn survey_log(
     ensures { SurveysLog bytes.now frame (lent chart.old tour.old sheet.old) (lent chart.new tour.new sheet.new) result }
 {
     let seen = numbered(frame)?;
-    let log = Log::read(bytes)?.log();
+    let log = Log::read(bytes)?;
     let rover = Framed {
         below: LogRover::new(log),
         frame: seen,

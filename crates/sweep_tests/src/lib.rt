@@ -12,7 +12,6 @@ mod tests {
     use framed::Framed;
     use log_floor::log_rover::LogRover;
     use log_format::log::Log;
-    use log_format::records::Records;
     use map_format::drawing::Drawing;
     use rover::meaning::Rover;
     use std::alloc::Global;
@@ -106,10 +105,10 @@ mod tests {
             0, 2, 1, 2, 2, 0, 0, 0, 0, 1, 0, 2, 0, 3, 0, 4, //
             0, 0, 1, 3, 8, 0, 0, 0, 0, 5, 0, 6, 0, 7, 0, 8,
         ];
-        let plain = LogRover::new(Log::read(&bytes)?.log());
+        let plain = LogRover::new(Log::read(&bytes)?);
         tells(&rt, swept(&rt, rt.alloc(), plain)?, 8, 7, 2);
         let framed = Framed {
-            below: LogRover::new(Log::read(&bytes)?.log()),
+            below: LogRover::new(Log::read(&bytes)?),
             frame: Turn { quarters: 1 },
         };
         let record = swept(&rt, rt.alloc(), framed)?;

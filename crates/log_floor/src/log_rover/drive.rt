@@ -1,4 +1,6 @@
 ghost use Rattle.std.specs.Prelude.{◌≡◌, Some};
+ghost use Rattle.log_record.specs.Layout.{start_of};
+ghost use Rattle.log_format.specs.Log.{record_of};
 ghost use Rattle.log_floor.specs.Told.{floor_of, field_of};
 ghost use Rattle.log_floor.specs.Passing.{same_from_both, closed_at_edge};
 
@@ -6,15 +8,15 @@ use super::LogRover;
 use crate::floor::{count_at, is_open, is_passable};
 use board::heading::Heading;
 use board::place::Place;
-use log_format::records::Records;
+use log_format::log::Log;
 use rover::faults::RoverFault;
 use rover::meaning::Rover;
 
-impl<L: Records> LogRover<L> {
+impl<'a> LogRover<'a> {
     /// The rover of a log, at the start that its header names, before its first step and look.
-    pub fn new(log: L) -> LogRover<L>
-        ensures log { result.log ≡ log }
-        ensures place { L.Records.start log ≡ Some result.place }
+    pub fn new(log: Log<'a>) -> LogRover<'a>
+        ensures log { result.log ≡ log.entry }
+        ensures place { start_of log.entry.chain.bytes.now ≡ Some result.place }
         ensures counts { (result.moves ≡ 0) × (result.looks ≡ 0) }
     {
         let place = log.start();
@@ -27,22 +29,22 @@ impl<L: Records> LogRover<L> {
     }
 }
 
-impl<L: Records> Rover for LogRover<L> {
+impl<'a> Rover for LogRover<'a> {
     type Reading = u16;
 
-    ghost floor = { λ s. floor_of (L.Records.told s.log) };
+    ghost floor = { λ s. floor_of (record_of s.log.chain.bytes.now) };
 
     ghost place = { λ s. s.place };
 
-    ghost field = { λ s. field_of (L.Records.told s.log) };
+    ghost field = { λ s. field_of (record_of s.log.chain.bytes.now) };
 
     ghost moves = { λ s. s.moves };
 
     ghost looks = { λ s. s.looks };
 
-    ghost sides = { λ s. same_from_both (L.Records.told s.log) };
+    ghost sides = { λ s. same_from_both (record_of s.log.chain.bytes.now) };
 
-    ghost edge = { λ s. closed_at_edge (L.Records.told s.log) };
+    ghost edge = { λ s. closed_at_edge (record_of s.log.chain.bytes.now) };
 
     fn look(&mut self, heading: Heading) -> bool {
         self.looks = self.looks.saturating_add(1);

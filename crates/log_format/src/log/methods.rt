@@ -3,47 +3,38 @@ ghost use Rattle.log_record.specs.Layout.{start_of, header_of};
 ghost use Rattle.log_format.specs.Chain.{EndsInTime};
 ghost use Rattle.log_format.specs.Log.{refusal, record_of, Reaching};
 
-use super::{Accepted, Log};
-use crate::records::Records;
-use crate::walk::walk;
+use super::Log;
+use crate::chain::Chain;
 use board::megacell::Megacell;
 use board::place::Place;
 use log_record::faults::LogFault;
-use log_record::header::{Header, read_header};
 use log_record::record::{Record, record_at};
 
 impl<'a> Log<'a> {
     /// Reads a log: the bytes are followed along the chain once and stay lent. It ends on every input.
-    pub fn read(bytes: &'a [u8]) -> Result<Accepted<'a>, LogFault>
+    pub fn read(bytes: &'a [u8]) -> Result<Log<'a>, LogFault>
         ensures is { MatchResult result
-            (λ log. (log.bytes.now ≡ bytes.now) × (refusal bytes.now ≡ None))
+            (λ log. (log.chain.bytes.now ≡ bytes.now) × (refusal bytes.now ≡ None))
             (λ e. refusal bytes.now ≡ Some e) }
         ensures ends { EndsInTime bytes.now }
     {
-        let header = read_header(bytes)?;
-        walk(bytes, header)?;
-        Ok(Accepted { bytes })
+        let chain = Chain::read(bytes)?;
+        chain.walk()?;
+        Ok(Log { chain })
     }
 
-    /// The header, which an accepted log has.
-    fn header(&self) -> Header
-        ensures is { header_of self.now.bytes.now ≡ Ok result }
-        ensures start { start_of self.now.bytes.now ≡ Some result.start }
+    /// The record of a megacell, if there is one.
+    pub fn record(&self, megacell: Megacell) -> Option<Record>
+        ensures { result ≡ record_of self.now.chain.bytes.now megacell }
     {
-        match read_header(self.bytes) {
-            Ok(header) => header,
-            Err(_) => unreachable(),
-        }
+        seek(self.chain.bytes, self.chain.header.first, megacell)
     }
-}
 
-impl<'a> Accepted<'a> {
-    /// The log that was read.
-    pub fn log(self) -> Log<'a>
-        requires { refusal self.bytes.now ≡ None }
-        ensures { result.bytes.now ≡ self.entry.bytes.now }
+    /// The place to start at.
+    pub fn start(&self) -> Place
+        ensures { start_of self.now.chain.bytes.now ≡ Some result }
     {
-        Log { bytes: self.bytes }
+        self.chain.header.start
     }
 }
 
@@ -57,19 +48,4 @@ fn seek(log: &[u8], index: u16, megacell: Megacell) -> Option<Record>
         return Some(record);
     }
     seek(log, record.next, megacell)
-}
-
-/// An accepted log tells what its bytes hold.
-impl<'a> Records for Log<'a> {
-    ghost told = { λ s. record_of s.bytes.now };
-
-    ghost start = { λ s. start_of s.bytes.now };
-
-    fn record(&self, megacell: Megacell) -> Option<Record> {
-        seek(self.bytes, self.header().first, megacell)
-    }
-
-    fn start(&self) -> Place {
-        self.header().start
-    }
 }

@@ -20,15 +20,14 @@ returns c =
     let Seen : List ℕ → Pair (Option Mirror) Turn → Type 0 =
     λ b f. Surveys (seen_floor (place_below f) (heading_below f) (floor_of_log b)) (seen_field (place_below f) (field_of_log b)) (place_seen f c.new.result.place) before after r in
     let framed = c.in_ok-seen.ensures in
-    let read = c.in_ok-read.ensures.is in
-    let lent : c.log-log.result.bytes.now ≡ c.args.bytes.now = c.log-log.ensures ∙ read.0 in
-    let held : c.new.result.log.bytes.now ≡ c.args.bytes.now = ap (λ (l : Log). l.bytes.now) c.new.ensures.log ∙ lent in
+    let read = c.in_ok-log.ensures.is in
+    let held : c.new.result.log.chain.bytes.now ≡ c.args.bytes.now = ap (λ (l : Log). l.chain.bytes.now) c.new.ensures.log ∙ read.0 in
     record {
       unframed = λ h. absurd (omega (arith, framed.0));
       framed = λ h.
           subst (λ (o : Option LogFault). LogAnswered c.args.frame c.args.bytes.now o before after r) (sym read.1) (
             c.new.result.place,
-            ap start_of (sym lent) ∙ c.new.ensures.place,
-            subst (λ b. Seen b (frame_of c.args.frame)) held (subst (λ f. Seen c.new.result.log.bytes.now f) framed.1 c.survey_rover.ensures),
+            ap start_of (sym read.0) ∙ c.new.ensures.place,
+            subst (λ b. Seen b (frame_of c.args.frame)) held (subst (λ f. Seen c.new.result.log.chain.bytes.now f) framed.1 c.survey_rover.ensures),
           );
     }

@@ -1,10 +1,10 @@
-use Rattle.std.proofs.Common.{sym, ap, rules}
+use Rattle.std.proofs.Common.{ap, rules}
 use Rattle.log_format.specs.Log.{after_header, refusal}
 use Rattle.log_format.proofs.log.Log.read.Goals as goal
 
-pub returns-in_err-header : goal.returns-in_err-header
+pub returns-in_err-chain : goal.returns-in_err-chain
 unfolding refusal
-returns-in_err-header c =
-    let e = sym c.in_err-header.ensures in
+returns-in_err-chain c =
+    let e = c.in_err-chain.ensures in
     let k = ap (after_header c.args.bytes.now) e in
     search rules
