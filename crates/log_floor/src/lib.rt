@@ -1,6 +1,5 @@
-//! The floor that a log tells of, and a rover on it. The log stays lent.
+//! The floor that a log tells of, and a meter rover on it. The log stays lent.
 #![tactic(auto)]
 
-mod floor;
-pub mod log_rover;
+pub mod floor;
 pub mod theorems;

@@ -1,7 +1,7 @@
 use Rattle.std.proofs.Common.{refl}
 use Rattle.board.specs.Corners.{corner_of, corner_by}
 use Rattle.board.specs.Headings.{opposite, heading_number}
-use Rattle.board.specs.Squares.{placed, celled, same_square, squared}
+use Rattle.board.specs.Squares.{same_square, squared}
 use Rattle.board.specs.Places.{megacell_of}
 use Rattle.board.specs.Steps.{beside}
 use Rattle.firsts.specs.First.{first}

@@ -1,5 +1,5 @@
 use Rattle.std.proofs.Common.{refl}
-use Rattle.board.specs.Squares.{placed, celled, same_square, squared}
+use Rattle.board.specs.Squares.{same_square, squared}
 use Rattle.board.specs.Places.{megacell_of}
 use Rattle.firsts.specs.First.{first}
 use Rattle.log_record.specs.Layout.{header_of, record_at}
