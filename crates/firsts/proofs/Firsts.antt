@@ -1,6 +1,7 @@
 -- What a loop that looks for the first number with a property has to show, and what its answer tells.
-use Rattle.std.proofs.Common.{◌≡◌, ℕ, zero, suc, ◌+◌, ◌<◌, ◌≤◌, Bool, true, false, cond, Some, None, Option, refl, subst, inl, inr, add-one, arith}
+use Rattle.std.proofs.Common.{◌≡◌, ℕ, zero, suc, ◌+◌, ◌<◌, ◌≤◌, Bool, true, false, cond, Some, None, Option, sym, refl, subst, inl, inr, add-one, arith}
 use Rattle.std.proofs.lemmas.Bool.{cases_lt}
+use Rattle.std.specs.Option.{MatchOption}
 use Rattle.firsts.specs.First.{first, or_else}
 
 suc_more : (P : ℕ → Bool) (n : ℕ) → first P n ≡ None → P n ≡ false → first P (suc n) ≡ None
@@ -29,6 +30,9 @@ first_here P i zero e t h = absurd (omega arith)
 first_here P i (suc n) e t h =
     elim (cases_lt i n) [ inl l ↦ suc_kept P n i (first_here P i n e t l) | inr l ↦ let s : i ≡ n = omega arith in subst (λ k. first P (suc k) ≡ Some i) s (suc_here P i e t) ]
 
+-- what a loop needs that looks for the first number
+pub ruleset looking = (first_zero, first_more, first_here)
+
 -- no number from a to b passes
 pub first_skip : (P : ℕ → Bool) (a b : ℕ) → first P a ≡ None → ((k : ℕ) → a ≤ k → k < b → P k ≡ false) → a ≤ b → first P b ≡ None
 first_skip P a zero e f h = first_zero P
@@ -37,6 +41,11 @@ first_skip P a (suc b) e f h =
 
 pub first_none : (P : ℕ → Bool) (n : ℕ) → ((k : ℕ) → k < n → P k ≡ false) → first P n ≡ None
 first_none P n f = first_skip P 0 n (first_zero P) (λ k p q. f k q) (omega arith)
+
+-- the answer of a search from a on, where no number before a passes
+pub first_found : (P : ℕ → Bool) (a n : ℕ) (o : Option ℕ) → a ≤ n → ((k : ℕ) → k < a → P k ≡ false) → MatchOption o ((k : ℕ) → a ≤ k → k < n → P k ≡ false) (λ i. (a ≤ i) × (i < n) × (P i ≡ true) × ((k : ℕ) → a ≤ k → k < i → P k ≡ false)) → o ≡ first P n
+first_found P a n None l f h = sym (first_skip P a n (first_none P a f) h l)
+first_found P a n (Some i) l f h = sym (first_here P i n (first_skip P a i (first_none P a f) h.3 h.0) h.2 h.1)
 
 abbrev Told : (ℕ → Bool) → ℕ → Option ℕ → Type 0
 Told P n (Some k) = (k < n) × (P k ≡ true) × ((j : ℕ) → j < k → P j ≡ false)

@@ -3,3 +3,4 @@ pub mod Rowing
 pub mod Drawn
 mod Lying
 mod Digits
+mod Found

@@ -1,27 +1,10 @@
 -- Rows begin where the rules say.
-use Rattle.std.proofs.Common.{◌≡◌, ℕ, zero, suc, ◌+◌, ◌-◌, ◌*◌, ◌/◌, ◌%◌, ◌<◌, ◌≤◌, true, false, eqb, leb, List, length, get_or, Some, None, Option, sym, refl, ap, ◌∙◌, subst, inl, inr, add-mul, add-one, arith}
-use Rattle.std.proofs.lemmas.Bool.{and_parts, and_cases, eqb-true, eqb-false, le-leb, lt-ltb, both_ways, cases_lt}
+use Rattle.std.proofs.Common.{◌≡◌, ℕ, zero, suc, ◌+◌, ◌-◌, ◌*◌, ◌/◌, ◌%◌, ◌<◌, ◌≤◌, false, List, length, get_or, sym, ap, ◌∙◌, subst, inl, inr, add-mul, add-one, arith}
+use Rattle.std.proofs.lemmas.Bool.{cases_lt}
 use Rattle.std.proofs.lemmas.Nat.{div-add-mod', mod_below, mul-le}
-use Rattle.firsts.proofs.Firsts.{first_some}
-use Rattle.map_format.specs.Bytes.{stands}
-use Rattle.map_format.specs.Rows.{width, row_at, row_end, is_at, bad_row}
+use Rattle.map_format.specs.Rows.{width, row_at, bad_row}
 use Rattle.map_format.specs.Layout.{Begins, RowsLie}
-use Rattle.map_format.proofs.Rowing.{not_bad}
-
--- a row that has the width ends there, and has no LF before
-record Ends (m : List ℕ) (w o : ℕ) : Type 0 where
-  end : get_or m (o + w) 0 ≡ 10
-  clear : (i : ℕ) → o ≤ i → i < o + w → get_or m i 0 ≡ 10 → ⊥
-
-ends_by : (m : List ℕ) (w o : ℕ) (r : Option ℕ) → row_end m o ≡ r → is_at r (o + w) ≡ true → Ends m w o
-ends_by m w o (Some e) q h =
-    let s : e ≡ o + w = eqb-true _ _ h in
-    let f = first_some (stands m 10 o) (length m) (o + w) (subst (λ k. row_end m o ≡ Some k) s q) in
-    record {
-      end = eqb-true _ _ (and_parts (leb o (o + w)) _ f.1).1;
-      clear = λ i p l t. elim (and_cases (leb o i) (eqb (get_or m i 0) 10) (f.2 i l)) [ inl u ↦ both_ways _ u (le-leb _ _ p) | inr u ↦ eqb-false _ _ u t ];
-    }
-ends_by m w o None q h = absurd (both_ways false refl h)
+use Rattle.map_format.proofs.Rowing.{Ends, row_ends}
 
 next_row : (j q : ℕ) → (j + 1) * q ≡ j * q + q
 next_row j q = let e = add-mul j 1 q in omega arith
@@ -32,9 +15,7 @@ row_below j k q h = let e = mul-le (j + 1) q k q (omega arith) (omega arith) in 
 row_good : (m : List ℕ) (k j : ℕ) → ((i : ℕ) → i < k → bad_row m i ≡ false) → row_at m k ≤ length m → j < k → Ends m (width m) (row_at m j)
 row_good m k j f l h =
     let b = row_below j k (width m + 1) h in
-    let at : row_at m j < length m = omega arith in
-    let g = not_bad _ _ (lt-ltb _ _ at) (f j h) in
-    ends_by m (width m) (row_at m j) (row_end m (row_at m j)) refl (and_parts (leb (width m) 32) _ (and_parts (leb 1 (width m)) _ g).1).1
+    (row_ends m j (omega arith) (f j h)).1
 
 begins : (m : List ℕ) (k : ℕ) → ((i : ℕ) → i < k → bad_row m i ≡ false) → row_at m k ≤ length m → (j : ℕ) → j ≤ k → Begins m (row_at m j)
 begins m k f l zero h = inl (omega arith)

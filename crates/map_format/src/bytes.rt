@@ -10,9 +10,11 @@ fn is_permitted(byte: u8) -> bool
 }
 
 /// The offset of the first byte that no map has.
+#[tactic(auto, using(firsts::proofs::Firsts::looking))]
 pub(crate) fn first_forbidden(map: &[u8]) -> Option<usize>
     ensures { result ≡ first (forbidden map.now) (length map.now) }
 {
+    // A rule of the project: this is a loop over the bytes with their index.
     for (offset, byte) in map.iter().enumerate() {
         if !is_permitted(*byte) {
             return Some(offset);
@@ -27,10 +29,8 @@ pub(crate) fn first_from(map: &[u8], byte: u8, from: usize) -> Option<usize>
     ensures is { result ≡ first_from map.now byte from }
     ensures within { IfSome result (λ o. (from ≤ o) × (o < length map.now) × (slice_index map.now o ≡ byte)) }
 {
-    for at in from..map.len() {
-        if map[at] == byte {
-            return Some(at);
-        }
-    }
-    None
+    map[from..]
+        .iter()
+        .position(|other| *other == byte)
+        .map(|after| from + after)
 }

@@ -15,14 +15,14 @@ fn told<F: Fault>(fault: &F) -> (u8, usize)
     (fault.number(), fault.place())
 }
 
-/// What is said of a map: of a refused one the refusal's number and place; of an accepted one 0 and the number of
-/// the start's megacell.
-fn said(map: &[u8]) -> (u8, usize)
+/// What is said of a map: of an accepted one the number of the start's megacell; of a refused one the refusal's number
+/// and place.
+fn said(map: &[u8]) -> Result<usize, (u8, usize)>
     ensures { result ≡ said_of (answer map.now) }
 {
     match Drawing::read(map) {
-        Ok(drawing) => (0, drawing.start().number()),
-        Err(fault) => told(&fault),
+        Ok(drawing) => Ok(drawing.start().number()),
+        Err(fault) => Err(told(&fault)),
     }
 }
 
@@ -33,149 +33,136 @@ mod tests {
     use drawn_floor::drawn_rover::DrawnRover;
     use drawn_floor::light::Light;
     use rover::meaning::Rover;
+    use std::array::from_fn;
     use std::test::Fail;
 
-    // worked maps; an accepted one says 0 and the number of its start
+    // worked maps; an accepted one says the number of its start
     #[test]
     fn worked_maps(rt: HostRuntime) {
-        let maps: [(&[u8], u8, usize); 8] = [
-            (b"S\n", 0, 0),
-            (b"S.\n.#\n", 0, 0),
-            (b"..\n.S\n", 0, 33),
-            (b"", 2, 0),
-            (b"#\n", 6, 2),
-            (b"S..\n..\n", 4, 4),
-            (b"S", 4, 0),
-            (b".S\nS.\n", 6, 3),
+        let maps: [(&[u8], Result<usize, (u8, usize)>); 8] = [
+            (b"S\n", Ok(0)),
+            (b"S.\n.#\n", Ok(0)),
+            (b"..\n.S\n", Ok(33)),
+            (b"", Err((2, 0))),
+            (b"#\n", Err((6, 2))),
+            (b"S..\n..\n", Err((4, 4))),
+            (b"S", Err((4, 0))),
+            (b".S\nS.\n", Err((6, 3))),
         ];
-        for (map, number, place) in maps.iter() {
-            assert!(rt; said(*map) == (*number, *place));
+        for (map, answer) in maps.iter() {
+            assert!(rt; said(*map) == *answer);
         }
     }
 
     // the first forbidden byte; CR is one
     #[test]
     fn forbidden_bytes(rt: HostRuntime) {
-        let maps: [(&[u8], u8, usize); 16] = [
-            (b"S..\n.#.\n...\n ", 3, 12),
-            (b"S..\t.#.\n...\n", 3, 3),
-            (b"S..T.#.\n...\n", 3, 3),
-            (b"S..\x80.#.\n...\n", 3, 3),
-            (b"S..\xff.#.\n...\n", 3, 3),
-            (b"S.\r..\r", 3, 2),
-            (b"\r..\n.#.\n...\n", 3, 0),
-            (b" ..\n.#.\n...\n", 3, 0),
-            (b"SR.\n.#.\n...\n", 3, 1),
-            (b"S..\n.#.\n..\x7f\n", 3, 10),
-            (b"S..\n.#.\n...\r", 3, 11),
-            (b"S..\n.#.\n...@", 3, 11),
-            (b"S..\n.\".\n...\n", 3, 5),
-            (b".................................?\nS\n", 3, 33),
-            (b"S.-\n.#.\n...\n", 3, 2),
-            (b"S..\n/#.\n...\n", 3, 4),
+        let maps: [(&[u8], Result<usize, (u8, usize)>); 16] = [
+            (b"S..\n.#.\n...\n ", Err((3, 12))),
+            (b"S..\t.#.\n...\n", Err((3, 3))),
+            (b"S..T.#.\n...\n", Err((3, 3))),
+            (b"S..\x80.#.\n...\n", Err((3, 3))),
+            (b"S..\xff.#.\n...\n", Err((3, 3))),
+            (b"S.\r..\r", Err((3, 2))),
+            (b"\r..\n.#.\n...\n", Err((3, 0))),
+            (b" ..\n.#.\n...\n", Err((3, 0))),
+            (b"SR.\n.#.\n...\n", Err((3, 1))),
+            (b"S..\n.#.\n..\x7f\n", Err((3, 10))),
+            (b"S..\n.#.\n...\r", Err((3, 11))),
+            (b"S..\n.#.\n...@", Err((3, 11))),
+            (b"S..\n.\".\n...\n", Err((3, 5))),
+            (b".................................?\nS\n", Err((3, 33))),
+            (b"S.-\n.#.\n...\n", Err((3, 2))),
+            (b"S..\n/#.\n...\n", Err((3, 4))),
         ];
-        for (map, number, place) in maps.iter() {
-            assert!(rt; said(*map) == (*number, *place));
+        for (map, answer) in maps.iter() {
+            assert!(rt; said(*map) == *answer);
         }
     }
 
     // rows of a wrong width or without LF; 32 columns pass
     #[test]
     fn bad_rows(rt: HostRuntime) {
-        let maps: [(&[u8], u8, usize); 6] = [
-            (b"S..\n.#.\n...", 4, 8),
+        let maps: [(&[u8], Result<usize, (u8, usize)>); 6] = [
+            (b"S..\n.#.\n...", Err((4, 8))),
             (
                 b"S\n.\n.\n.\n.\n.\n.\n.\n.\n.\n.\n.\n.\n.\n.\n.\n.\n.\n.\n.\n.\n.\n.\n.\n.\n.\n.\n.\n.\n.\n.\n.\n\n",
-                4,
-                64,
+                Err((4, 64)),
             ),
-            (b"S.\n..\n.\n...\n", 4, 6),
-            (b"S.\n\n", 4, 3),
-            (b"S................................\n", 4, 0),
-            (b"S...............................\n", 0, 0),
+            (b"S.\n..\n.\n...\n", Err((4, 6))),
+            (b"S.\n\n", Err((4, 3))),
+            (b"S................................\n", Err((4, 0))),
+            (b"S...............................\n", Ok(0)),
         ];
-        for (map, number, place) in maps.iter() {
-            assert!(rt; said(*map) == (*number, *place));
+        for (map, answer) in maps.iter() {
+            assert!(rt; said(*map) == *answer);
         }
     }
 
     // 32 rows pass, a 33rd does not
     #[test]
     fn rows_and_starts(rt: HostRuntime) {
-        let maps: [(&[u8], u8, usize); 5] = [
+        let maps: [(&[u8], Result<usize, (u8, usize)>); 5] = [
             (
                 b"S\n.\n.\n.\n.\n.\n.\n.\n.\n.\n.\n.\n.\n.\n.\n.\n.\n.\n.\n.\n.\n.\n.\n.\n.\n.\n.\n.\n.\n.\n.\n.\n",
-                0,
-                0,
+                Ok(0),
             ),
             (
                 b".\n.\n.\n.\n.\n.\n.\n.\n.\n.\n.\n.\n.\n.\n.\n.\n.\n.\n.\n.\n.\n.\n.\n.\n.\n.\n.\n.\n.\n.\n.\nS\n",
-                0,
-                992,
+                Ok(992),
             ),
             (
                 b"S\n.\n.\n.\n.\n.\n.\n.\n.\n.\n.\n.\n.\n.\n.\n.\n.\n.\n.\n.\n.\n.\n.\n.\n.\n.\n.\n.\n.\n.\n.\n.\n.\n",
-                5,
-                64,
+                Err((5, 64)),
             ),
             (
                 b"S\n.\n.\n.\n.\n.\n.\n.\n.\n.\n.\n.\n.\n.\n.\n.\n.\n.\n.\n.\n.\n.\n.\n.\n.\n.\n.\n.\n.\n.\n.\n.\n.\n.\n",
-                5,
-                64,
+                Err((5, 64)),
             ),
-            (b"SS\n", 6, 1),
+            (b"SS\n", Err((6, 1))),
         ];
-        for (map, number, place) in maps.iter() {
-            assert!(rt; said(*map) == (*number, *place));
+        for (map, answer) in maps.iter() {
+            assert!(rt; said(*map) == *answer);
         }
     }
 
     // of several reasons the first counts
     #[test]
     fn first_reason_counts(rt: HostRuntime) {
-        let maps: [(&[u8], u8, usize); 5] = [
+        let maps: [(&[u8], Result<usize, (u8, usize)>); 5] = [
             (
                 b"..S..\r\n......\n......\n......\n......\n......\n......\n......\n......\n......\n.................................\n......\n",
-                3,
-                5,
+                Err((3, 5)),
             ),
             (
                 b"S.S...\n......\n......\n......\n......\n......\n......\n......\n.......\n......\n......\n...\r..\n",
-                3,
-                81,
+                Err((3, 81)),
             ),
             (
                 b"..S...\n......\n......\n......\n\n......\n......\n......\n......\n......\n......\n......\n......\n......\n......\n......\n......\n......\n......\n......\n......\n......\n......\n......\n......\n......\n......\n......\n......\n......\n......\n......\n......\n......\n......\n......\n",
-                4,
-                28,
+                Err((4, 28)),
             ),
             (
                 b"S.S...\n......\n......\n......\n......\n......\n......\n......\n......\n......\n......\n......\n......\n......\n......\n......\n......\n......\n......\n......\n......\n......\n......\n......\n......\n......\n......\n......\n......\n......\n......\n......\n......\n......\n......\n......\n",
-                5,
-                224,
+                Err((5, 224)),
             ),
             (
                 b"..#...\n......\n......\n......\n......\n......\n......\n......\n......\n......\n......\n......\n......\n......\n......\n......\n......\n......\n......\n......\n......\n......\n......\n......\n......\n......\n......\n......\n......\n......\n......\n......\n......\n......\n......\n......\n",
-                5,
-                224,
+                Err((5, 224)),
             ),
         ];
-        for (map, number, place) in maps.iter() {
-            assert!(rt; said(*map) == (*number, *place));
+        for (map, answer) in maps.iter() {
+            assert!(rt; said(*map) == *answer);
         }
     }
 
     // 32 rows of 32 megacells are 1,056 bytes, and pass; a byte more does not
     #[test]
-    fn lengths(rt: HostRuntime) -> Result<(), Fail> {
-        let mut map = [b'.'; 1057];
-        for row in 0..32 {
-            map[33 * row + 32] = b'\n';
-        }
+    fn lengths(rt: HostRuntime) {
+        let mut map: [u8; 1057] = from_fn(|at| if at % 33 == 32 { b'\n' } else { b'.' });
         map[1054] = b'S';
-        assert!(rt; said(&map[0..1056]) == (0, 1023));
-        assert!(rt; said(&map) == (2, 0));
-        Ok(())
+        assert!(rt; said(&map[0..1056]) == Ok(1023));
+        assert!(rt; said(&map) == Err((2, 0)));
     }
 
     // the four subcells of a 9 read 112.5 lux, all others are unlit
@@ -185,10 +172,7 @@ mod tests {
         assert!(rt; matches!(rover.read(), Light::Unlit));
         for heading in [Heading::East, Heading::North, Heading::East, Heading::South] {
             rover.step(heading)?;
-            let Light::Lux(level) = rover.read() else {
-                return Err(Fail::new("no light under the lamp"));
-            };
-            assert!(rt; level == 112.5);
+            assert!(rt; matches!(rover.read(), Light::Lux(level) if level == 112.5));
         }
         Ok(())
     }
@@ -202,10 +186,7 @@ mod tests {
         assert!(rt; !rover.look(Heading::North) && !rover.look(Heading::West));
         rover.step(Heading::East)?;
         assert!(rt; !rover.look(Heading::South));
-        match rover.step(Heading::South) {
-            Ok(()) => return Err(Fail::new("a step across a closed side")),
-            Err(fault) => assert!(rt; told(&fault) == (15, 66)),
-        }
+        assert!(rt; rover.step(Heading::South).map_err(|fault| told(&fault)) == Err((15, 66)));
         assert!(rt; rover.place().slot() == 66);
         assert!(rt; rover.moves() == 1 && rover.looks() == 5);
         Ok(())

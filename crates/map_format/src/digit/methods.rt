@@ -5,9 +5,11 @@ use super::Digit;
 
 impl Digit {
     /// The digit that an ASCII byte is; none where it is no digit.
+    #[tactic(auto, unfolding(crate::specs::Cells::digit_of))]
     pub(crate) fn of_byte(byte: u8) -> Option<Digit>
         ensures { result ≡ digit_of byte }
     {
+        // An `Option`, and no `TryFrom`: a byte that is no digit is no error, it draws a free megacell.
         if byte >= b'0' && byte <= b'9' {
             Some(Digit { value: byte - b'0' })
         } else {

@@ -1,27 +1,27 @@
-ghost use Rattle.std.specs.Prelude.{◌≡◌, ◌<◌, IfOk};
-ghost use Rattle.map_format.specs.Answer.{answer};
-ghost use Rattle.map_format.specs.Cells.{megacell_at};
+ghost use Rattle.std.specs.Prelude.{◌≡◌, IfOk, None, Some};
+ghost use Rattle.map_format.specs.Answer.{answer, refusal, first_start, drawn};
 ghost use Rattle.map_format.specs.Layout.{LiesOn};
 
 use super::Drawing;
 use crate::bytes::{first_forbidden, first_from};
-use crate::cells::draw;
 use crate::faults::MapFault;
-use crate::rows::{first_bad_row, first_width, row_start};
-use board::megacell::Megacell;
-
-/// The megacell at two numbers that are on the board.
-fn megacell_at(row: usize, column: usize) -> Megacell
-    requires { (row < 32) × (column < 32) }
-    ensures { result ≡ megacell_at row column }
-{
-    match Megacell::new(row as u8, column as u8) {
-        Some(megacell) => megacell,
-        None => unreachable(),
-    }
-}
+use crate::rows::Rows;
 
 impl Drawing {
+    /// What the rows of an accepted map draw, whose `S` stands at an offset.
+    #[tactic(auto, using(crate::proofs::Drawn::start_row, crate::proofs::Drawn::start_column))]
+    fn of(rows: &Rows, start: usize) -> Drawing
+        requires accepted { refusal rows.now.map.now ≡ None }
+        requires first { first_start rows.now.map.now ≡ Some start }
+        ensures is { result ≡ drawn rows.now.map.now start }
+        ensures lies { LiesOn rows.now.map.now result }
+    {
+        Drawing {
+            cells: rows.draw(),
+            start: rows.megacell_of(start),
+        }
+    }
+
     /// The floor that a map draws, or the first reason to refuse it.
     pub fn read(map: &[u8]) -> Result<Drawing, MapFault>
         ensures is { result ≡ answer map.now }
@@ -33,13 +33,13 @@ impl Drawing {
         if let Some(offset) = first_forbidden(map) {
             return Err(MapFault::ForbiddenByte { offset });
         }
-        let width = first_width(map);
-        if let Some(row) = first_bad_row(map, width) {
+        let rows = Rows::of(map);
+        if let Some(row) = rows.first_bad() {
             return Err(MapFault::BadRow {
-                offset: row_start(row, width),
+                offset: rows.start_of(row),
             });
         }
-        let end = row_start(32, width);
+        let end = rows.start_of(32);
         if end < map.len() {
             return Err(MapFault::ExtraRow { offset: end });
         }
@@ -49,9 +49,6 @@ impl Drawing {
         if let Some(offset) = first_from(map, b'S', start + 1) {
             return Err(MapFault::SecondStart { offset });
         }
-        Ok(Drawing {
-            cells: draw(map, width),
-            start: megacell_at(start / (width + 1), start % (width + 1)),
-        })
+        Ok(Drawing::of(&rows, start))
     }
 }

@@ -1,13 +1,11 @@
-use Rattle.std.proofs.Common.{sym, arith, rules}
-use Rattle.std.proofs.lemmas.Bool.Decides.{nat_tests}
-use Rattle.firsts.proofs.Firsts.{first_none, first_more, first_here}
+use Rattle.std.proofs.Common.{◌≡◌, drop, rules, tests, arith}
+use Rattle.std.proofs.lemmas.Grind.{common_steps}
+use Rattle.std.proofs.lemmas.Iterator.{IsFirst-from_position, YieldsList-from_slice}
+use Rattle.map_format.proofs.Found.{found_from}
 use Rattle.map_format.proofs.bytes.first_from.Goals as goal
 
-pub loop-at-init : goal.loop-at-init
-loop-at-init c = first_none _ c.args.from (λ k h. grind (arith, nat_tests))
-
-pub returns-then-map-at : goal.returns-then-map-at
-returns-then-map-at c = record { is = sym (first_here _ c.loop-at.at _ c.loop-at.invariant (grind (arith, nat_tests)) (omega arith)); within = search rules }
-
-pub loop-at-preserved : goal.loop-at-preserved
-loop-at-preserved c = first_more _ c.loop-at.at c.loop-at.invariant (grind (arith, nat_tests))
+pub returns-clause-is : goal.returns-clause-is
+returns-clause-is c =
+    let b = c.args.byte in
+    let f = found_from c.args.map.now b c.args.from _ c.requires (IsFirst-from_position _ _ _ (λ x. x ≡ b) (λ x. x ≡ b → ⊥) c.position.ensures.ran (YieldsList-from_slice (drop c.args.from c.args.map.now) (grind (arith, common_steps))) (λ x q k. search (rules, tests)) (λ x q k. search (rules, tests))) in
+    search (rules, f)
