@@ -1,6 +1,8 @@
 -- The table of marks follows the history: it chooses what the rules ask for, and a move keeps it so.
-use Rattle.std.proofs.Common.{◌≡◌, ℕ, zero, suc, ◌+◌, Bool, true, false, cond, ◌≢◌, List, [], ◌∷◌, length, get_or, set, replicate, Some, None, Option, sym, refl, ap, ◌∙◌, subst, inl, inr, arith, get_or-set_other, get_or-set_same}
+use Rattle.std.proofs.Common.{◌≡◌, ℕ, ◌+◌, Bool, true, false, cond, ◌≢◌, List, [], ◌∷◌, length, set, replicate, Some, None, Option, sym, refl, ap, ◌∙◌, subst, inl, inr, arith, get_or-set_other, get_or-set_same}
 use Rattle.std.proofs.lemmas.Bool.{both_ways, cases_Bool}
+use Rattle.std.proofs.lemmas.List.{get_or-replicate}
+use lib.ListN.{length-replicate}
 use Rattle.board.specs.declared.heading.Heading.{Heading}
 use Rattle.board.specs.Squares.{Megacell, Place, same_square, number_of}
 use Rattle.board.specs.Headings.{left, opposite}
@@ -40,18 +42,12 @@ old_entry_keeps_marks s q ps marks o t m = says_as_before s q ps m (mark_at mark
 
 -- A first entry marks the megacell.
 other_marks_stay : (marks : List Mark) (y m : Megacell) (k : Mark) → same_square m y ≡ false → mark_at (set marks (number_of y) k) m ≡ mark_at marks m
-unfolding mark_at
 other_marks_stay marks y m k e =
     let ne : number_of m ≢ number_of y = λ i. both_ways _ e (ap (λ (x : Megacell). same_square x y) (one_megacell_to_a_number m y i) ∙ same_square_refl y) in
     get_or-set_other marks (number_of y) (number_of m) k New ne
 
 mark_is_set : (marks : List Mark) (y : Megacell) (k : Mark) → length marks ≡ 1024 → mark_at (set marks (number_of y) k) y ≡ k
-unfolding mark_at
 mark_is_set marks y k e = get_or-set_same marks (number_of y) k New (omega arith)
-
-unset_mark_is_new : (marks : List Mark) (m : Megacell) → ((i : ℕ) → get_or marks i New ≡ New) → mark_at marks m ≡ New
-unfolding mark_at
-unset_mark_is_new marks m new = new (number_of m)
 
 pub first_entry_keeps_marks : (s q : Place) (ps : List Place) (marks : List Mark) (y : Megacell) (e : Heading) → length marks ≡ 1024 → beside (megacell_of (here s ps)) e ≡ Some y → old s ps y ≡ false → megacell_of q ≡ y →
     Tells s ps marks → Tells s (q ∷ ps) (set marks (number_of y) (Under (opposite e)))
@@ -75,13 +71,13 @@ first_entry_keeps_marks s q ps marks y e size b new in_y t m = elim (cases_Bool 
 
 -- The choice is by the rules.
 leads_to_the_parent : (s : Place) (ps : List Place) (x y : Megacell) (e : Heading) (k : Mark) → old s ps x ≡ true → beside x e ≡ Some y → Says s ps x k → leads k e ≡ is_parent (Some y) (parent s ps x)
-unfolding leads is_parent
+unfolding is_parent
 leads_to_the_parent s ps x y e New o b w = absurd (both_ways _ w o)
 leads_to_the_parent s ps x y e Root o b w = rw w.1
 leads_to_the_parent s ps x y e (Under h) o b w = sym (is_parent_by_heading x w.1.0 e h (parent s ps x) w.1.1 w.1.2) ∙ ap (λ (v : Option Megacell). is_parent v (parent s ps x)) b
 
 looks_by_the_rules : (s : Place) (ps : List Place) (y : Megacell) (e : Heading) (f : Bool) (k : Mark) → Says s ps y k → decided (look_if_new k y) e f ≡ ruled e false (old s ps y) f
-unfolding look_if_new ruled
+unfolding ruled
 looks_by_the_rules s ps y e true New w = rw w
 looks_by_the_rules s ps y e false New w = rw w
 looks_by_the_rules s ps y e f Root w = rw w.0
@@ -107,45 +103,39 @@ decided_by_the_rules_at s ps marks x e f (Some y) b a t = go (is_parent (Some y)
 
 pub decided_by_the_rules : (floor : Floor) (s : Place) (ps : List Place) (marks : List Mark) → Tells s ps marks →
     decided (choice marks (here s ps)) (exit (here s ps)) (floor (megacell_of (here s ps)) (exit (here s ps))) ≡ next_move floor s ps
-unfolding choice next_move
+unfolding next_move
 decided_by_the_rules floor s ps marks t = decided_by_the_rules_at s ps marks (megacell_of (here s ps)) (exit (here s ps)) (floor (megacell_of (here s ps)) (exit (here s ps))) (beside (megacell_of (here s ps)) (exit (here s ps))) refl (here_is_old s ps) t
 
 -- What a choice says of the megacell ahead.
-zero_one : ◌≡◌ {A = ℕ} 0 1 → ⊥
-zero_one e = omega arith
-
 looked_at_is_marked_new : (k : Mark) (x y : Megacell) → look_if_new k x ≡ Look y → k ≡ New
-unfolding look_if_new
 looked_at_is_marked_new New x y e = refl
 looked_at_is_marked_new Root x y e = cc
 looked_at_is_marked_new (Under h) x y e = cc
 
-no_cross_but_to_the_parent : (k : Mark) (x : Megacell) → look_if_new k x ≡ Cross → ◌≡◌ {A = ℕ} 0 1
-unfolding look_if_new
+no_cross_but_to_the_parent : (k : Mark) (x : Megacell) → look_if_new k x ≡ Cross → ⊥
 no_cross_but_to_the_parent New x e = cc
 no_cross_but_to_the_parent Root x e = cc
 no_cross_but_to_the_parent (Under h) x e = cc
 
 parent_is_old : (s : Place) (ps : List Place) (x : Megacell) (e : Heading) (k : Mark) → leads k e ≡ true → Says s ps x k → (z : Megacell) × (beside x e ≡ Some z) × (old s ps z ≡ true)
-unfolding leads
 parent_is_old s ps x e New l w = absurd (both_ways false refl l)
 parent_is_old s ps x e Root l w = absurd (both_ways false refl l)
 parent_is_old s ps x e (Under h) l w = (w.1.0, ap (beside x) (same_heading_true e h l) ∙ w.1.2, w.1.3)
 
 crossed_to_is_old : (s : Place) (ps : List Place) (marks : List Mark) (x : Megacell) (e : Heading) (o : Option Megacell) → choice_by marks x e o ≡ Cross → Tells s ps marks → (z : Megacell) × (beside x e ≡ Some z) × (old s ps z ≡ true)
-crossed_to_is_old s ps marks x e None i t = absurd (zero_one (cc))
+crossed_to_is_old s ps marks x e None i t = cc
 crossed_to_is_old s ps marks x e (Some y) i t = go (leads (mark_at marks x) e) refl i
   where
     go : (c : Bool) → leads (mark_at marks x) e ≡ c → cond c Cross (look_if_new (mark_at marks y) y) ≡ Cross → (z : Megacell) × (beside x e ≡ Some z) × (old s ps z ≡ true)
     go true l j = parent_is_old s ps x e (mark_at marks x) l (t x)
-    go false l j = absurd (zero_one (no_cross_but_to_the_parent (mark_at marks y) y j))
+    go false l j = absurd (no_cross_but_to_the_parent (mark_at marks y) y j)
 
 looked_at_is_new : (s : Place) (ps : List Place) (marks : List Mark) (x : Megacell) (e : Heading) (o : Option Megacell) (y : Megacell) → choice_by marks x e o ≡ Look y → o ≡ Some y → Tells s ps marks → old s ps y ≡ false
-looked_at_is_new s ps marks x e None y i j t = absurd (zero_one (cc))
+looked_at_is_new s ps marks x e None y i j t = cc
 looked_at_is_new s ps marks x e (Some z) y i j t = go (leads (mark_at marks x) e) i
   where
     go : (c : Bool) → cond c Cross (look_if_new (mark_at marks z) z) ≡ Look y → old s ps y ≡ false
-    go true k = absurd (zero_one (cc))
+    go true k = cc
     go false k =
         let is : z ≡ y = cc in
         let w : Says s ps z New = subst (λ (v : Mark). Says s ps z v) (looked_at_is_marked_new (mark_at marks z) z y k) (t z) in
@@ -167,7 +157,7 @@ turn_leaves s ps marks t =
 
 pub move_leaves : (s : Place) (ps : List Place) (marks : List Mark) (c : Choice) (f : Bool) → choice marks (here s ps) ≡ c → length marks ≡ 1024 → Tells s ps marks →
     After s ps marks (exit (here s ps)) (step (decided c (exit (here s ps)) f).heading (here s ps)) (found c f)
-unfolding choice bit
+unfolding bit
 move_leaves s ps marks Cross f i size t =
     let p = here s ps in
     let w = crossed_to_is_old s ps marks (megacell_of p) (exit p) (beside (megacell_of p) (exit p)) i t in
@@ -183,19 +173,14 @@ move_leaves s ps marks (Look y) true i size t =
 move_leaves s ps marks (Look y) false i size t = turn_leaves s ps marks t
 
 -- The marks of a new sweep.
-pub all_are_new : (n i : ℕ) → get_or (replicate n New) i New ≡ New
-all_are_new zero i = refl
-all_are_new (suc n) zero = refl
-all_are_new (suc n) (suc i) = all_are_new n i
-
-pub fresh_marks_stand : (s : Place) (marks : List Mark) → length marks ≡ 1024 → ((i : ℕ) → get_or marks i New ≡ New) → Tells s [] (set marks (number_of (megacell_of s)) Root)
+pub fresh_marks_stand : (s : Place) {own : Megacell} {marks : List Mark} → own ≡ megacell_of s → marks ≡ set (replicate 1024 New) (number_of own) Root → Tells s [] marks
 unfolding old parent
-fresh_marks_stand s marks size new m = elim (cases_Bool (same_square m (megacell_of s))) [
-  | inl e ↦
-      let is = same_square_true m (megacell_of s) e in
-      let k : mark_at (set marks (number_of (megacell_of s)) Root) m ≡ Root = ap (mark_at (set marks (number_of (megacell_of s)) Root)) is ∙ mark_is_set marks (megacell_of s) Root size in
-      subst (λ (v : Mark). Says s [] m v) (sym k) (ap (same_square (megacell_of s)) is ∙ same_square_refl (megacell_of s), refl)
-  | inr e ↦
-      let k : mark_at (set marks (number_of (megacell_of s)) Root) m ≡ New = other_marks_stay marks (megacell_of s) m Root e ∙ unset_mark_is_new marks m new in
-      subst (λ (v : Mark). Says s [] m v) (sym k) (same_megacell_sym (megacell_of s) m ∙ e)
+fresh_marks_stand s {own = own} {marks = marks} i e m = elim (cases_Bool (same_square m own)) [
+  | inl a ↦
+      let is = same_square_true m own a in
+      let k : mark_at marks m ≡ Root = ap (λ (x : List Mark). mark_at x m) e ∙ ap (mark_at (set (replicate 1024 New) (number_of own) Root)) is ∙ mark_is_set (replicate 1024 New) own Root (length-replicate 1024 New) in
+      subst (λ (v : Mark). Says s [] m v) (sym k) (ap (same_square (megacell_of s)) (is ∙ i) ∙ same_square_refl (megacell_of s), refl)
+  | inr a ↦
+      let k : mark_at marks m ≡ New = ap (λ (x : List Mark). mark_at x m) e ∙ other_marks_stay (replicate 1024 New) own m Root a ∙ get_or-replicate 1024 (number_of m) New New (omega arith) in
+      subst (λ (v : Mark). Says s [] m v) (sym k) (ap (λ (x : Megacell). same_square x m) (sym i) ∙ same_megacell_sym own m ∙ a)
 ]

@@ -20,17 +20,11 @@ use Rattle.chart.specs.declared.slot.Slot.TheVariants.{Empty, Holds}
 use Rattle.chart.specs.Charts.{SameBeyond}
 use Rattle.sweep.specs.declared.faults.SweepFault.{SweepFault}
 use Rattle.sweep.specs.declared.faults.SweepFault.TheVariants.{Chart, Home, Rover}
+use Rattle.sweep.specs.Calls.{Told}
 use Rattle.sweep.specs.Single.{Steps, Still, Barred, Refuses, Runs, RunRefuses}
 use Rattle.rover.specs.declared.faults.RoverFault.TheVariants.{Closed}
 use Rattle.rover.specs.Drive.{counted}
-use Rattle.sweep.proofs.Telling.{counted_none, counted_more, counted_plain, journey_idles_at_home}
-
--- what a run does to every journey: it asked for so many moves, and wrote so many letters
-pub record Told {R A : Type 0} (G : Ghosts R A) (sweep after : Sweep R A) (slots slots_after : List (Slot A)) (bytes : List ℕ) (asking letters : ℕ) (origin : R) (asked : ℕ) : Type 0 where
-  pub journey : Journey G origin (asked + asking) after
-  pub moves : after.moves ≡ sweep.moves + letters
-  pub writes : Letters (G.floor origin) (G.place origin) sweep.moves letters bytes
-  pub fills : Filled (G.floor origin) (G.field origin) (G.place origin) sweep.moves after.moves slots slots_after
+use Rattle.sweep.proofs.Telling.{counted_none, counted_more, one_move_more, journey_idles_at_home}
 
 -- What moves do to the slots: no move, one move, and moves after others.
 
@@ -64,6 +58,15 @@ move_fills {floor = floor} {s = s} {n = n} {h = h} {q = q} w e c = record {
   fills = c;
 }
 
+-- no move made where none is wanted
+pub nothing_told : {R A : Type 0} {G : Ghosts R A} {sweep : Sweep R A} {slots : List (Slot A)} {bytes : List ℕ} {wanted : ℕ} {origin : R} {asked : ℕ} → wanted ≡ 0 → Journey G origin asked sweep → Told G sweep sweep slots slots bytes wanted 0 origin asked
+nothing_told {G = G} {sweep = sweep} {slots = slots} {origin = origin} none st = record {
+  journey = subst (λ (k : ℕ). Journey G origin k sweep) (omega arith) st;
+  moves = omega arith;
+  writes = λ i h. absurd (omega arith);
+  fills = fills_none (G.floor origin) (G.field origin) (G.place origin) sweep.moves slots;
+}
+
 -- the invariant of the loop
 pub record Running {R A : Type 0} (G : Ghosts R A) (sweep : Sweep R A) (slots : List (Slot A)) (before : List ℕ) (after : Sweep R A) (slots_after : List (Slot A)) (bytes : List ℕ) (letters : ℕ) : Type 0 where
   pub runs : Runs G sweep slots before after slots_after bytes letters
@@ -72,12 +75,9 @@ pub record Running {R A : Type 0} (G : Ghosts R A) (sweep : Sweep R A) (slots : 
   pub law : (origin : R) (asked : ℕ) → Journey G origin asked sweep → Told G sweep after slots slots_after bytes letters letters origin asked
   pub chart : (origin : R) (asked : ℕ) → Journey G origin asked sweep → Charts G origin sweep slots → Charts G origin after slots_after
 
-pub unchanged_is_still : {R A : Type 0} (G : Ghosts R A) (sweep : Sweep R A) (slots : List (Slot A)) → Still G sweep slots sweep slots
-unchanged_is_still G sweep slots = record { place = refl; driven = refl; looked = refl; floor = refl; field = refl; chart = refl; start = refl; marks = refl; moves = refl; looks = refl; megacells = refl; home = refl }
-
 -- before the first move
-pub run_of_no_move : {R A : Type 0} (G : Ghosts R A) (sweep : Sweep R A) (slots : List (Slot A)) (bytes : List ℕ) → 4096 ≤ length slots → Running G sweep slots bytes sweep slots bytes 0
-run_of_no_move G sweep slots bytes room = record {
+pub run_of_no_move : {R A : Type 0} {G : Ghosts R A} {sweep : Sweep R A} {slots : List (Slot A)} {bytes : List ℕ} → 4096 ≤ length slots → Running G sweep slots bytes sweep slots bytes 0
+run_of_no_move {G = G} {sweep = sweep} {slots = slots} room = record {
   runs = record {
     room = room;
     fits = omega arith;
@@ -90,13 +90,8 @@ run_of_no_move G sweep slots bytes room = record {
     driven = counted_none (G.moves sweep.rover);
   };
   room = room;
-  idle = λ e. (refl, unchanged_is_still G sweep slots);
-  law = λ origin asked st. record {
-    journey = subst (λ (k : ℕ). Journey G origin k sweep) (omega arith) st;
-    moves = omega arith;
-    writes = λ i h. absurd (omega arith);
-    fills = fills_none (G.floor origin) (G.field origin) (G.place origin) sweep.moves slots;
-  };
+  idle = λ e. (refl, record { place = refl; driven = refl; looked = refl; floor = refl; field = refl; chart = refl; start = refl; marks = refl; moves = refl; looks = refl; megacells = refl; home = refl });
+  law = λ origin asked st. nothing_told refl st;
   chart = λ origin asked st ch. ch;
 }
 
@@ -109,61 +104,64 @@ move_leaves_beyond {A = A} {G = G} {sweep = sweep} {slots = slots} {q = q} m i k
 pub refusal_leaves_beyond : {R A : Type 0} {G : Ghosts R A} {sweep after : Sweep R A} {slots slots_after : List (Slot A)} → Still G sweep slots after slots_after → SameBeyond slots slots_after
 refusal_leaves_beyond {A = A} s i k = ap (λ (x : List (Slot A)). get_or x i Empty) s.chart
 
-module _ {R A : Type 0} (G : Ghosts R A) (laws : (r : R) → Lawful (G.floor r)) (sweep : Sweep R A) (slots : List (Slot A)) (before : List ℕ) (after : Sweep R A) (slots_after : List (Slot A)) (bytes : List ℕ) (letters : ℕ)
+module _ {R A : Type 0} {G : Ghosts R A} (laws : (r : R) → Lawful (G.floor r)) {sweep : Sweep R A} {slots : List (Slot A)} {before : List ℕ} {after : Sweep R A} {slots_after : List (Slot A)} {bytes : List ℕ} {letters : ℕ}
     (run : Running G sweep slots before after slots_after bytes letters) where
   -- one more move
-  pub run_of_one_more : (later : Sweep R A) (slots_later : List (Slot A)) (h : Heading) (q : Place) → 4096 ≤ length slots_later → letters < length before → length bytes ≡ length before → after.home ≡ false →
-      Steps G after slots_after later slots_later h q →
-      ((origin : R) (asked : ℕ) → Journey G origin asked after → Journey G origin (asked + 1) later × NextMove (G.floor origin) (G.place origin) after.moves h q) →
+  pub run_of_one_more : {later : Sweep R A} {slots_later : List (Slot A)} {h : Heading} {q : Place} {byte : ℕ} →
+      (4096 ≤ length slots_after) × (after.home ≡ false) × Steps G after slots_after later slots_later h q →
+      ((origin : R) (asked : ℕ) → 4096 ≤ length slots_after → Journey G origin asked after → Journey G origin (asked + 1) later × ((after.home ≡ false) × NextMove (G.floor origin) (G.place origin) after.moves h q)) →
       ((origin : R) (asked : ℕ) → Journey G origin asked after → Charts G origin after slots_after → Charts G origin later slots_later) →
-      Running G sweep slots before later slots_later (set bytes letters (letter h)) (letters + 1)
-  run_of_one_more later slots_later h q room fits long far m law chart = record {
-    runs = record {
-      room = run.runs.room;
-      fits = omega arith;
-      rest = λ i k. let ne : i ≢ letters = omega arith in get_or-set_other bytes letters i (letter h) 0 ne ∙ run.runs.rest i (omega arith);
-      beyond = λ i k. move_leaves_beyond m i k ∙ run.runs.beyond i k;
-      floor = m.floor ∙ run.runs.floor;
-      field = m.field ∙ run.runs.field;
-      start = m.start ∙ run.runs.start;
-      moves = m.moves ∙ ap counted run.runs.moves ∙ counted_more letters sweep.moves;
-      driven = m.driven ∙ ap counted run.runs.driven ∙ counted_more letters (G.moves sweep.rover);
-    };
-    room = room;
-    idle = λ e. absurd (both_ways _ far ((run.idle e).1.home ∙ e));
-    law = λ origin asked st.
-        let t = run.law origin asked st in
-        let w = law origin (asked + letters) t.journey in
-        let small = at_most_4096_moves (G.floor origin) (laws origin) (G.place origin) after.moves t.journey.workings.underway in
-        record {
-          journey = subst (λ (k : ℕ). Journey G origin k later) (omega arith) w.0;
-          moves = m.moves ∙ counted_plain after.moves (omega arith) ∙ omega (arith, t.moves);
-          writes = below_more _ _
-              (λ i k. let ne : i ≢ letters = omega arith in get_or-set_other bytes letters i (letter h) 0 ne ∙ t.writes i k)
-              (get_or-set_same bytes letters (letter h) 0 (omega arith)
-              ∙ ap letter (w.1.heading ∙ ap (λ (k : ℕ). (move_after (G.floor origin) (G.place origin) k).heading) t.moves));
-          fills = fills_on t.fills (move_fills w.1 (m.moves ∙ counted_plain after.moves (omega arith)) (m.charted ∙ ap (λ (f : Place → A). set slots_after (slot_of q) (Holds (f q))) t.journey.field));
-        };
-    chart = λ origin asked st ch. chart origin (asked + letters) (run.law origin asked st).journey (run.chart origin asked st ch);
-  }
-
-  -- the run ends with a full buffer, or home
-  pub run_is_done : (letters ≡ length before) ⊎ (after.home ≡ true) → (origin : R) (asked : ℕ) → Journey G origin asked sweep → Told G sweep after slots slots_after bytes (length before) letters origin asked
-  run_is_done why origin asked st =
-      let t = run.law origin asked st in
+      byte ≡ letter h → letters < length before → length bytes ≡ length before → 4096 ≤ length slots_later →
+      Running G sweep slots before later slots_later (set bytes letters byte) (letters + 1)
+  run_of_one_more {later = later} {slots_later = slots_later} {h = h} {q = q} {byte = byte} done law chart is fits long room =
+      let m = done.2 in
       record {
-        journey = elim why [
-          | inl e ↦ subst (λ (k : ℕ). Journey G origin (asked + k) after) e t.journey
-          | inr e ↦ journey_idles_at_home G origin (laws origin) (asked + letters) after t.journey (asked + length before) e (omega (arith, run.runs.fits, t.journey.workings.most))
-        ];
-        moves = t.moves;
-        writes = t.writes;
-        fills = t.fills;
+        runs = record {
+          room = run.runs.room;
+          fits = omega arith;
+          rest = λ i k. let ne : i ≢ letters = omega arith in get_or-set_other bytes letters i byte 0 ne ∙ run.runs.rest i (omega arith);
+          beyond = λ i k. move_leaves_beyond m i k ∙ run.runs.beyond i k;
+          floor = m.floor ∙ run.runs.floor;
+          field = m.field ∙ run.runs.field;
+          start = m.start ∙ run.runs.start;
+          moves = m.moves ∙ ap counted run.runs.moves ∙ counted_more letters sweep.moves;
+          driven = m.driven ∙ ap counted run.runs.driven ∙ counted_more letters (G.moves sweep.rover);
+        };
+        room = room;
+        idle = λ e. absurd (both_ways _ done.1 ((run.idle e).1.home ∙ e));
+        law = λ origin asked st.
+            let t = run.law origin asked st in
+            let w = law origin (asked + letters) run.room t.journey in
+            let next = w.1.1 in
+            let one = one_move_more m (at_most_4096_moves (G.floor origin) (laws origin) (G.place origin) after.moves t.journey.workings.underway) in
+            record {
+              journey = subst (λ (k : ℕ). Journey G origin k later) (omega arith) w.0;
+              moves = omega (arith, one, t.moves);
+              writes = below_more _ _
+                  (λ i k. let ne : i ≢ letters = omega arith in get_or-set_other bytes letters i byte 0 ne ∙ t.writes i k)
+                  (get_or-set_same bytes letters byte 0 (omega arith)
+                  ∙ is ∙ ap letter (next.heading ∙ ap (λ (k : ℕ). (move_after (G.floor origin) (G.place origin) k).heading) t.moves));
+              fills = fills_on t.fills (move_fills next one (m.charted ∙ ap (λ (f : Place → A). set slots_after (slot_of q) (Holds (f q))) t.journey.field));
+            };
+        chart = λ origin asked st ch. chart origin (asked + letters) (run.law origin asked st).journey (run.chart origin asked st ch);
       }
 
+  -- the run ends with a full buffer, or home
+  pub run_is_done : {count : ℕ} → count ≡ letters → (letters ≡ length before) ⊎ (after.home ≡ true) → (origin : R) (asked : ℕ) → 4096 ≤ length slots → Journey G origin asked sweep →
+      Journey G origin (asked + length before) after
+      × ((after.moves ≡ sweep.moves + count) × Letters (G.floor origin) (G.place origin) sweep.moves count bytes × Filled (G.floor origin) (G.field origin) (G.place origin) sweep.moves after.moves slots slots_after)
+  run_is_done e why origin asked _ st =
+      let t = run.law origin asked st in (
+        elim why [
+          | inl full ↦ subst (λ (k : ℕ). Journey G origin (asked + k) after) full t.journey
+          | inr homed ↦ journey_idles_at_home G origin (laws origin) (asked + letters) after t.journey (asked + length before) homed (omega (arith, run.runs.fits, t.journey.workings.most))
+        ],
+        (t.moves ∙ omega arith, λ i h. t.writes i (omega arith), t.fills),
+      )
+
   -- after a refused step the run stands as it stood
-  refusal_keeps_run : (later : Sweep R A) (slots_later : List (Slot A)) → Still G after slots_after later slots_later → Runs G sweep slots before later slots_later bytes letters
-  refusal_keeps_run later slots_later s = record {
+  refusal_keeps_run : {later : Sweep R A} {slots_later : List (Slot A)} → Still G after slots_after later slots_later → Runs G sweep slots before later slots_later bytes letters
+  refusal_keeps_run s = record {
     room = run.runs.room;
     fits = run.runs.fits;
     rest = run.runs.rest;
@@ -175,16 +173,16 @@ module _ {R A : Type 0} (G : Ghosts R A) (laws : (r : R) → Lawful (G.floor r))
     driven = s.driven ∙ run.runs.driven;
   }
 
-  refusal_stays_barred : (later : Sweep R A) (slots_later : List (Slot A)) (h : Heading) (e : SweepFault) → Still G after slots_after later slots_later → Barred G after h e → Barred G later h e
-  refusal_stays_barred later slots_later h e s b = record {
+  refusal_stays_barred : {later : Sweep R A} {slots_later : List (Slot A)} {h : Heading} {e : SweepFault} → Still G after slots_after later slots_later → Barred G after h e → Barred G later h e
+  refusal_stays_barred {later = later} {h = h} s b = record {
     blocked = λ q p. b.blocked q (subst (λ (x : Place). Passes (G.floor after.rover) x h q) s.place (subst (λ (f : Floor). Passes f (G.place later.rover) h q) s.floor p));
     is = b.is ∙ ap (λ (x : Place). Rover (Closed (slot_of x) h)) (sym s.place);
     tells = b.tells ∙ ap (λ (x : Place). refused 15 RoverLayer (slot_of x)) (sym s.place);
   }
 
   -- once the slots are enough, a run is refused for no reason but the rover's
-  pub run_refused_by_rover : (later : Sweep R A) (slots_later : List (Slot A)) (e : SweepFault) → letters < length before → after.home ≡ false → Refuses G after (length slots_after) e → Still G after slots_after later slots_later →
+  pub run_refused_by_rover : {later : Sweep R A} {slots_later : List (Slot A)} (e : SweepFault) → letters < length before → after.home ≡ false → Refuses G after (length slots_after) e → Still G after slots_after later slots_later →
       RunRefuses G sweep slots before later slots_later bytes e
-  run_refused_by_rover later slots_later (Chart e) fits far w s = absurd (omega (arith, w.0, run.room))
-  run_refused_by_rover later slots_later Home fits far w s = both_ways _ far w.1
-  run_refused_by_rover later slots_later (Rover e) fits far w s = ((letters, fits, refusal_keeps_run later slots_later s), s.home ∙ far, (w.2.0, refusal_stays_barred later slots_later w.2.0 (Rover e) s w.2.1))
+  run_refused_by_rover (Chart e) fits far w s = absurd (omega (arith, w.0, run.room))
+  run_refused_by_rover Home fits far w s = both_ways _ far w.1
+  run_refused_by_rover (Rover e) fits far w s = ((letters, fits, refusal_keeps_run s), s.home ∙ far, (w.2.0, refusal_stays_barred s w.2.1))

@@ -1,13 +1,13 @@
 -- From what the code does by its table to the promise: at the start, by a move, and at home.
-use Rattle.std.proofs.Common.{◌≡◌, ℕ, ◌+◌, ◌*◌, ◌<◌, ◌≤◌, min, Bool, true, false, ◌≢◌, List, [], ◌∷◌, length, set, Some, None, Ok, Err, Option, Result, sym, refl, ap, ◌∙◌, subst, inl, inr, add-one, arith, length-set, get_or-set_other, get_or-set_same, MatchResult}
+use Rattle.std.proofs.Common.{◌≡◌, ℕ, ◌+◌, ◌<◌, ◌≤◌, Bool, true, false, ◌≢◌, List, [], ◌∷◌, length, set, Ok, Err, Result, sym, refl, ap, ◌∙◌, subst, inl, inr, add-one, arith, length-set, get_or-set_other, get_or-set_same, MatchResult}
 use Rattle.std.proofs.lemmas.Bool.{both_ways, cases_Bool}
 use Rattle.board.specs.declared.heading.Heading.{Heading}
-use Rattle.board.specs.Squares.{Megacell, Place, same_square}
+use Rattle.board.specs.Squares.{Place, same_square}
 use Rattle.board.specs.Places.{megacell_of, slot_of}
 use Rattle.board.specs.Corners.{exit}
 use Rattle.board.specs.Steps.{step}
 use Rattle.board.specs.Counting.{bit, many}
-use Rattle.board.specs.Floors.{Floor, Lawful, Passes}
+use Rattle.board.specs.Floors.{Floor, SameFromBoth, ClosedAtEdge, Lawful}
 use Rattle.board.proofs.Geometry.{square_path, same_square_true, same_square_refl, step_is}
 use Rattle.tour.specs.History.{here, old, home, walk, entered}
 use Rattle.tour.specs.Rules.{Move}
@@ -26,18 +26,15 @@ use Rattle.sweep.specs.declared.faults.SweepFault.{SweepFault}
 use Rattle.sweep.specs.declared.faults.SweepFault.TheVariants.{Home}
 use Rattle.sweep.specs.declared.sweep.Moved.{Moved}
 use Rattle.sweep.specs.declared.sweep.Sweep.{Sweep}
-use Rattle.sweep.specs.Table.{choice, decided, found, is_found, marked}
+use Rattle.sweep.specs.Table.{choice, decided, found, is_found}
 use Rattle.sweep.specs.Promise.{Promise, NextMove}
-use Rattle.sweep.specs.Faults.{told}
 use Rattle.sweep.specs.Journey.{counted_by, Journey, Charts}
-use Rattle.sweep.specs.Single.{counted_if, Steps, Still, Barred, Refuses, ByTable, decided_for, found_for, Begun}
+use Rattle.sweep.specs.Single.{counted_if, Steps, Still, Barred, ByTable, decided_for, found_for, Begun}
 use Rattle.sweep.proofs.Following.{Tells, After, decided_by_the_rules, move_leaves}
 
-min_left : (a b : ℕ) → a ≤ b → min a b ≡ a
-min_left a b h = omega arith
-
-min_right : (a b : ℕ) → b ≤ a → min a b ≡ b
-min_right a b h = omega arith
+-- the floors of a rover are lawful
+pub lawful : {R : Type 0} {floor : R → Floor} → ((r : R) → SameFromBoth (floor r)) → ((r : R) → ClosedAtEdge (floor r)) → (r : R) → Lawful (floor r)
+lawful sides edge r = record { both = sides r; edge = edge r }
 
 pub counted_plain : (n : ℕ) → n < 4294967295 → counted n ≡ n + 1
 counted_plain n h = omega arith
@@ -114,8 +111,8 @@ promise_from_workings floor s asked place n looked olds is_home law stands looks
       back = λ e. stands ∙ v.back (sym homed ∙ e);
       four = λ e. home_at_four_a_megacell floor law s n early (sym homed ∙ e);
       made = λ k w. elim (cases_Bool is_home) [
-        | inl e ↦ let z = home_at_four_a_megacell floor law s n early (sym homed ∙ e) k w in z ∙ sym (min_right asked (4 * k) (omega arith))
-        | inr e ↦ let z = not_home_before_four_a_megacell floor law s n early (sym homed ∙ e) k w in let d = due e in d ∙ sym (min_left asked (4 * k) (omega arith))
+        | inl e ↦ omega (arith, home_at_four_a_megacell floor law s n early (sym homed ∙ e) k w)
+        | inr e ↦ omega (arith, not_home_before_four_a_megacell floor law s n early (sym homed ∙ e) k w, due e)
       ];
       ground = ground_has_number floor law s;
       looks = looks;
@@ -123,9 +120,8 @@ promise_from_workings floor s asked place n looked olds is_home law stands looks
       few = omega (arith, few.2, one_number.tested (old s (visited floor s n)) few.0 olds few.1 cells);
     }
 
-marked_size : (o : Option Megacell) (e : Heading) (marks : List Mark) → length marks ≡ 1024 → length (marked o e marks) ≡ 1024
-marked_size None e marks h = h
-marked_size (Some y) e marks h = simp length-set h
+pub one_move_more : {R A : Type 0} {G : Ghosts R A} {sweep after : Sweep R A} {slots slots_after : List (Slot A)} {h : Heading} {q : Place} → Steps G sweep slots after slots_after h q → sweep.moves ≤ 4096 → after.moves ≡ sweep.moves + 1
+one_move_more {sweep = sweep} m few = m.moves ∙ counted_plain sweep.moves (omega arith)
 
 underway_at : (floor : Floor) (s : Place) (m n : ℕ) → m ≡ n → Underway floor s n → Underway floor s m
 underway_at floor s m n e far k h = far k (omega arith)
@@ -138,22 +134,15 @@ module _ {R A : Type 0} (G : Ghosts R A) (origin : R) (law : Lawful (G.floor ori
       let f = G.floor origin in
       let z = G.place origin in
       let qs = visited f z sweep.moves in
-      ap (λ (p : Place). decided (choice sweep.marks p) (exit p) (G.floor sweep.rover (megacell_of p) (exit p))) st.promise.standing
-      ∙ ap (λ (fl : Floor). decided (choice sweep.marks (here z qs)) (exit (here z qs)) (fl (megacell_of (here z qs)) (exit (here z qs)))) st.floor
-      ∙ decided_by_the_rules f z qs sweep.marks st.workings.tells
+      ap (λ (p : Place). decided (choice sweep.marks.table p) (exit p) (G.floor sweep.rover (megacell_of p) (exit p))) st.promise.standing
+      ∙ ap (λ (fl : Floor). decided (choice sweep.marks.table (here z qs)) (exit (here z qs)) (fl (megacell_of (here z qs)) (exit (here z qs)))) st.floor
+      ∙ decided_by_the_rules f z qs sweep.marks.table st.workings.tells
 
   -- the step that the rules ask for is not refused
   pub next_is_never_barred : sweep.home ≡ false → Blocked (G.floor sweep.rover) (G.place sweep.rover) (decided_for G sweep).heading → ⊥
   next_is_never_barred far b =
-      let f = G.floor origin in
-      let z = G.place origin in
-      let w = st.workings in
-      let go = (covers f law z sweep.moves w.underway).accepted (sym w.homed ∙ far) in
-      let h = ap (λ (n : Move). n.heading) decided_is_next in
-      let p1 = subst (λ (x : Place). Passes f x (move_after f z sweep.moves).heading (step (move_after f z sweep.moves).heading (here z (visited f z sweep.moves)))) (sym st.promise.standing) go in
-      let p2 = subst (λ (x : Floor). Passes x (G.place sweep.rover) (move_after f z sweep.moves).heading (step (move_after f z sweep.moves).heading (here z (visited f z sweep.moves)))) (sym st.floor) p1 in
-      let p3 = subst (λ (x : Heading). Passes (G.floor sweep.rover) (G.place sweep.rover) x (step (move_after f z sweep.moves).heading (here z (visited f z sweep.moves)))) (sym h) p2 in
-      b _ p3
+      let there = rw (decided_is_next, st.promise.standing, st.floor) at b in
+      there _ ((covers (G.floor origin) law (G.place origin) sweep.moves st.workings.underway).accepted (sym st.workings.homed ∙ far))
 
   -- at home, more asked for alters nothing
   pub journey_idles_at_home : (more : ℕ) → sweep.home ≡ true → sweep.moves ≤ more → Journey G origin more sweep
@@ -169,7 +158,6 @@ module _ {R A : Type 0} (G : Ghosts R A) (origin : R) (law : Lawful (G.floor ori
         field = st.field;
         workings = record {
           begun = w.begun;
-          size = w.size;
           tells = w.tells;
           homed = w.homed;
           underway = w.underway;
@@ -182,8 +170,8 @@ module _ {R A : Type 0} (G : Ghosts R A) (origin : R) (law : Lawful (G.floor ori
     moves_are_few : sweep.moves ≤ 4096
     moves_are_few = at_most_4096_moves (G.floor origin) law (G.place origin) sweep.moves st.workings.underway
 
-    one_move_more : after.moves ≡ sweep.moves + 1
-    one_move_more = m.moves ∙ counted_plain sweep.moves (omega (arith, moves_are_few))
+    one_more : after.moves ≡ sweep.moves + 1
+    one_more = one_move_more m moves_are_few
 
     decided_leads_there : step (decided_for G sweep).heading (G.place sweep.rover) ≡ q
     decided_leads_there = ap (λ (k : Heading). step k (G.place sweep.rover)) (sym by.heading) ∙ step_is h (G.place sweep.rover) q m.passes.next
@@ -197,19 +185,19 @@ module _ {R A : Type 0} (G : Ghosts R A) (origin : R) (law : Lawful (G.floor ori
         (ap (λ (k : Move). step k.heading (here z qs)) (sym decided_is_next) ∙ ap (step (decided_for G sweep).heading) (sym st.promise.standing) ∙ decided_leads_there)
 
     enters_after : visited (G.floor origin) (G.place origin) after.moves ≡ q ∷ visited (G.floor origin) (G.place origin) sweep.moves
-    enters_after = ap (λ (k : ℕ). visited (G.floor origin) (G.place origin) k) one_move_more ∙ next_enters
+    enters_after = ap (λ (k : ℕ). visited (G.floor origin) (G.place origin) k) one_more ∙ next_enters
 
-    left_after : After (G.place origin) (visited (G.floor origin) (G.place origin) sweep.moves) sweep.marks (exit (G.place sweep.rover)) q (found_for G sweep)
+    left_after : After (G.place origin) (visited (G.floor origin) (G.place origin) sweep.moves) sweep.marks.table (exit (G.place sweep.rover)) q (found_for G sweep)
     left_after =
         let f = G.floor origin in
         let z = G.place origin in
         let qs = visited f z sweep.moves in
         let p = here z qs in
-        let a0 = move_leaves z qs sweep.marks (choice sweep.marks p) (f (megacell_of p) (exit p)) refl st.workings.size st.workings.tells in
-        let F : Place → Floor → Type 0 = λ x fl. After z qs sweep.marks (exit x) (step (decided (choice sweep.marks x) (exit x) (fl (megacell_of x) (exit x))).heading x) (found (choice sweep.marks x) (fl (megacell_of x) (exit x))) in
+        let a0 = move_leaves z qs sweep.marks.table (choice sweep.marks.table p) (f (megacell_of p) (exit p)) refl sweep.marks.size st.workings.tells in
+        let F : Place → Floor → Type 0 = λ x fl. After z qs sweep.marks.table (exit x) (step (decided (choice sweep.marks.table x) (exit x) (fl (megacell_of x) (exit x))).heading x) (found (choice sweep.marks.table x) (fl (megacell_of x) (exit x))) in
         let a1 : F p (G.floor sweep.rover) = subst (λ (fl : Floor). F p fl) (sym st.floor) a0 in
         let a2 : F (G.place sweep.rover) (G.floor sweep.rover) = subst (λ (x : Place). F x (G.floor sweep.rover)) (sym st.promise.standing) a1 in
-        subst (λ (x : Place). After z qs sweep.marks (exit (G.place sweep.rover)) x (found_for G sweep)) decided_leads_there a2
+        subst (λ (x : Place). After z qs sweep.marks.table (exit (G.place sweep.rover)) x (found_for G sweep)) decided_leads_there a2
 
     looks_are_few : sweep.looks ≤ 3073
     looks_are_few = omega (arith, st.promise.few, at_most_1024 _ _ st.promise.cells)
@@ -231,11 +219,11 @@ module _ {R A : Type 0} (G : Ghosts R A) (origin : R) (law : Lawful (G.floor ori
     slots_is = m.charted ∙ ap (λ (fd : Place → A). set slots (slot_of q) (Holds (fd q))) st.field
 
     underway_after : Underway (G.floor origin) (G.place origin) after.moves
-    underway_after = underway_at (G.floor origin) (G.place origin) after.moves (sweep.moves + 1) one_move_more
+    underway_after = underway_at (G.floor origin) (G.place origin) after.moves (sweep.moves + 1) one_more
         (underway_one_more (G.floor origin) law (G.place origin) sweep.moves st.workings.underway (sym st.workings.homed ∙ far))
 
     due_after : after.moves ≡ asked + 1
-    due_after = omega (arith, one_move_more, st.workings.due far)
+    due_after = omega (arith, one_more, st.workings.due far)
 
     standing_after : G.place after.rover ≡ here (G.place origin) (visited (G.floor origin) (G.place origin) after.moves)
     unfolding here
@@ -248,7 +236,7 @@ module _ {R A : Type 0} (G : Ghosts R A) (origin : R) (law : Lawful (G.floor ori
         let qs = visited f z sweep.moves in
         promise_from_workings f z (asked + 1) (G.place after.rover) after.moves after.looks after.megacells after.home law
         standing_after
-        (looks_after ∙ omega (arith, st.promise.looks, looked_as_the_tour, one_move_looks f z sweep.moves, ap (tour_looks f z) one_move_more))
+        (looks_after ∙ omega (arith, st.promise.looks, looked_as_the_tour, one_move_looks f z sweep.moves, ap (tour_looks f z) one_more))
         (subst (λ (x : List Place). Number (λ c. old z x c ≡ true) after.megacells) (sym enters_after)
         (subst (λ (k : ℕ). Number (λ c. old z (q ∷ qs) c ≡ true) k) (sym cells_after) (left_after.1 sweep.megacells st.promise.cells)))
         homed_after
@@ -275,8 +263,8 @@ module _ {R A : Type 0} (G : Ghosts R A) (origin : R) (law : Lawful (G.floor ori
         record {
           promise = promise_after;
           moves = record {
-            exact = m.driven ∙ ap counted st.moves.exact ∙ counted_more sweep.moves (G.moves origin) ∙ ap (λ (k : ℕ). counted_by k (G.moves origin)) (sym one_move_more);
-            gained = λ low. m.driven ∙ counted_plain _ (omega (arith, st.moves.gained low, moves_are_few)) ∙ omega (arith, st.moves.gained low, one_move_more);
+            exact = m.driven ∙ ap counted st.moves.exact ∙ counted_more sweep.moves (G.moves origin) ∙ ap (λ (k : ℕ). counted_by k (G.moves origin)) (sym one_more);
+            gained = λ low. m.driven ∙ counted_plain _ (omega (arith, st.moves.gained low, moves_are_few)) ∙ omega (arith, st.moves.gained low, one_more);
           };
           looks = record {
             exact = by.looked ∙ ap (counted_if (decided_for G sweep).looked) st.looks.exact ∙ counted_if_more (decided_for G sweep).looked sweep.looks (G.looks origin) ∙ ap (λ (k : ℕ). counted_by k (G.looks origin)) (sym looks_after);
@@ -286,8 +274,7 @@ module _ {R A : Type 0} (G : Ghosts R A) (origin : R) (law : Lawful (G.floor ori
           field = m.field ∙ st.field;
           workings = record {
             begun = m.start ∙ st.workings.begun;
-            size = ap length by.marks ∙ marked_size (found_for G sweep) _ sweep.marks st.workings.size;
-            tells = subst (λ (x : List Place). Tells z x after.marks) (sym enters_after) (subst (λ (k : List Mark). Tells z (q ∷ qs) k) (sym by.marks) left_after.0);
+            tells = subst (λ (x : List Place). Tells z x after.marks.table) (sym enters_after) (subst (λ (k : List Mark). Tells z (q ∷ qs) k) (sym by.marks) left_after.0);
             homed = homed_after;
             underway = underway_after;
             due = λ e. due_after;
@@ -303,26 +290,16 @@ module _ {R A : Type 0} (G : Ghosts R A) (origin : R) (law : Lawful (G.floor ori
       place = sym (ap (here (G.place origin)) next_enters);
     }
 
--- a step that the rover bars is a refusal of the advance
-pub barred_step_refuses : {R A : Type 0} {G : Ghosts R A} {sweep : Sweep R A} {h : Heading} {e : SweepFault} (slots : ℕ) → 4096 ≤ slots → sweep.home ≡ false → Barred G sweep h e → Refuses G sweep slots e
-barred_step_refuses {G = G} {sweep = sweep} {h = h} slots room far b = subst (λ (x : SweepFault). Refuses G sweep slots x) (sym b.is) (room, far, (h, record { blocked = b.blocked; is = refl; tells = ap told (sym b.is) ∙ b.tells }))
-
 -- what holds of the error holds by cases of the result
 pub at_err : {X Y : Type 0} (P : X → Type 0) (Q : Y → Type 0) (r : Result X Y) (e : Y) → r ≡ Err e → Q e → MatchResult r P Q
 at_err {X = X} {Y = Y} P Q r e i q = subst (λ (x : Result X Y). MatchResult x P Q) (sym i) q
 
 -- What an advance promises, by what the table made of it.
-module _ {R A : Type 0} (G : Ghosts R A) (laws : (r : R) → Lawful (G.floor r)) (sweep : Sweep R A) (slots : List (Slot A)) (after : Sweep R A) (slots_after : List (Slot A)) (room : 4096 ≤ length slots) (far : sweep.home ≡ false) where
+module _ {R A : Type 0} (G : Ghosts R A) (laws : (r : R) → Lawful (G.floor r)) (sweep : Sweep R A) (slots : List (Slot A)) (after : Sweep R A) (slots_after : List (Slot A)) (far : sweep.home ≡ false) where
   abbrev MadeOrBarred : Result Moved SweepFault → Type 0
   MadeOrBarred r = MatchResult r
       (λ v. Steps G sweep slots after slots_after v.heading v.place × ByTable G sweep after v.heading)
       (λ e. Barred G sweep (decided_for G sweep).heading e × Still G sweep slots after slots_after)
-
-  pub advance_is_done : (r : Result Moved SweepFault) → MadeOrBarred r → MatchResult r
-      (λ v. (4096 ≤ length slots) × (sweep.home ≡ false) × Steps G sweep slots after slots_after v.heading v.place)
-      (λ e. Refuses G sweep (length slots) e × Still G sweep slots after slots_after)
-  advance_is_done (Ok v) w = (room, far, w.0)
-  advance_is_done (Err e) w = (barred_step_refuses (length slots) room far w.0, w.1)
 
   pub advance_keeps_journey : (r : Result Moved SweepFault) → MadeOrBarred r → (origin : R) (asked : ℕ) → Journey G origin asked sweep → Journey G origin (asked + 1) after × MatchResult r
       (λ v. (sweep.home ≡ false) × NextMove (G.floor origin) (G.place origin) sweep.moves v.heading v.place)
@@ -338,61 +315,36 @@ module _ {R A : Type 0} (G : Ghosts R A) (laws : (r : R) → Lawful (G.floor r))
   advance_keeps_chart (Err e) w origin asked st ch = absurd (next_is_never_barred G origin (laws origin) asked sweep st far w.0.blocked)
 
 -- A new sweep.
-nothing_entered_yet : (floor : Floor) (s : Place) (n : ℕ) → n ≡ 0 → visited floor s n ≡ []
-unfolding entered tour walk
-nothing_entered_yet floor s n e = rw e refl
-
-nothing_looked_yet : (floor : Floor) (s : Place) (n : ℕ) → n ≡ 0 → tour_looks floor s n ≡ 0
-unfolding tour_looks
-nothing_looked_yet floor s n e = rw e refl
-
 none_entered_before : (p : Place) → 1 ≤ many (same_square p) [] → ⊥
 unfolding many
 none_entered_before p h = omega arith
 
-pub chart_at_start : {R A : Type 0} (G : Ghosts R A) (rover : R) (sweep : Sweep R A) (slots : List (Slot A)) → Begun G rover sweep → Blank slots → Charts G rover sweep slots
-chart_at_start G rover sweep slots b blank =
-    let none = nothing_entered_yet (G.floor rover) (G.place rover) sweep.moves b.moves in
-    record {
-      room = blank.room;
-      charted = λ p i. absurd (none_entered_before p (subst (λ (x : List Place). 1 ≤ many (same_square p) x) none i));
-      blank = λ p i. blank.clear (slot_of p) (omega arith);
-    }
+pub chart_at_start : {R A : Type 0} {G : Ghosts R A} {rover : R} {sweep : Sweep R A} → Begun G rover sweep → (slots : List (Slot A)) → Blank slots → Charts G rover sweep slots
+unfolding entered tour walk
+chart_at_start {G = G} {rover = rover} b slots blank = rw b.moves (record {
+  room = blank.room;
+  charted = λ p i. absurd (none_entered_before p i);
+  blank = λ p i. blank.clear (slot_of p) (omega arith);
+})
 
-pub journey_at_start : {R A : Type 0} (G : Ghosts R A) (rover : R) (law : Lawful (G.floor rover)) (sweep : Sweep R A) → Begun G rover sweep → Journey G rover 0 sweep
-unfolding here many home
-journey_at_start G rover law sweep b =
-    let f = G.floor rover in
-    let z = G.place rover in
-    let none = nothing_entered_yet f z sweep.moves b.moves in
-    let homed : sweep.home ≡ home z (visited f z sweep.moves) = b.home ∙ sym (ap (home z) none) in
-    let early : Underway f z sweep.moves = λ k h. absurd (omega (arith, b.moves)) in
-    record {
-      promise = promise_from_workings f z 0 (G.place sweep.rover) sweep.moves sweep.looks sweep.megacells sweep.home law
-          (ap G.place b.owns ∙ sym (ap (here z) none))
-          (b.looks ∙ sym (nothing_looked_yet f z sweep.moves b.moves))
-          (subst (λ (x : List Place). Number (λ m. old z x m ≡ true) sweep.megacells) (sym none) (subst (λ (k : ℕ). Number (λ m. old z [] m ≡ true) k) (sym b.megacells) (one_old_at_start z)))
-          homed
-          early
-          (λ e. b.moves)
-          (omega (arith, b.moves));
-      moves = record {
-        exact = ap G.moves b.owns ∙ counted_none (G.moves rover) ∙ ap (λ (k : ℕ). counted_by k (G.moves rover)) (sym b.moves);
-        gained = λ low. ap G.moves b.owns ∙ omega (arith, b.moves);
-      };
-      looks = record {
-        exact = ap G.looks b.owns ∙ counted_none (G.looks rover) ∙ ap (λ (k : ℕ). counted_by k (G.looks rover)) (sym b.looks);
-        gained = λ low. ap G.looks b.owns ∙ omega (arith, b.looks);
-      };
-      floor = ap G.floor b.owns;
-      field = ap G.field b.owns;
-      workings = record {
-        begun = b.start;
-        size = b.size;
-        tells = subst (λ (x : List Place). Tells z x sweep.marks) (sym none) b.tells;
-        homed = homed;
-        underway = early;
-        due = λ e. b.moves;
-        most = omega (arith, b.moves);
-      };
-    }
+promise_at_start : (floor : Floor) (s : Place) → Lawful floor → Promise floor s 0 s 0 0 1 false
+unfolding here many home entered tour walk tour_looks
+promise_at_start floor s law = promise_from_workings floor s 0 s 0 0 1 false law refl refl (one_old_at_start s) refl (λ k h. absurd (omega arith)) (λ e. refl) (omega arith)
+
+pub journey_at_start : {R A : Type 0} {G : Ghosts R A} {rover : R} {sweep : Sweep R A} → Lawful (G.floor rover) → Begun G rover sweep → Journey G rover 0 sweep
+unfolding here many home entered tour walk counted_by
+journey_at_start {G = G} {rover = rover} {sweep = sweep} law b = record {
+  promise = rw (b.moves, b.looks, b.megacells, b.home, b.owns) (promise_at_start (G.floor rover) (G.place rover) law);
+  moves = rw (b.moves, b.owns) (record { exact = refl; gained = λ low. omega arith });
+  looks = rw (b.looks, b.owns) (record { exact = refl; gained = λ low. omega arith });
+  floor = ap G.floor b.owns;
+  field = ap G.field b.owns;
+  workings = rw (b.moves, b.home) (record {
+    begun = b.start;
+    tells = b.tells;
+    homed = refl;
+    underway = λ k h. absurd (omega arith);
+    due = λ e. refl;
+    most = omega arith;
+  });
+}

@@ -1,5 +1,5 @@
 -- A sweep from its start on: the law that every call keeps.
-use Rattle.std.specs.Prelude.{◌≡◌, ℕ, zero, suc, ◌+◌, ◌≤◌, Bool, false, List, length, take}
+use Rattle.std.specs.Prelude.{◌≡◌, ℕ, zero, suc, ◌+◌, ◌≤◌, Bool, false, List, take}
 use Rattle.rover.specs.declared.meaning.Rover.{Ghosts}
 use Rattle.rover.specs.Drive.{counted}
 use Rattle.board.specs.Squares.{Megacell, Place}
@@ -25,7 +25,6 @@ pub record Counts (began ends told : ℕ) : Type 0 where
 -- what is kept besides, for the proof: the sweep's private fields, and how the calls so far went
 pub record Workings (floor : Floor) (s : Place) (asked n : ℕ) (is_home : Bool) (start : Place) (marks : List Mark) : Type 0 where
   pub begun : start ≡ s
-  pub size : length marks ≡ 1024
   pub tells : (m : Megacell) → Says s (visited floor s n) m (mark_at marks m)
   pub homed : is_home ≡ home_after floor s n
   pub underway : Underway floor s n
@@ -40,7 +39,7 @@ pub record Journey {R A : Type 0} (G : Ghosts R A) (origin : R) (asked : ℕ) (s
   -- the rover has its floor and its field still
   pub floor : G.floor sweep.rover ≡ G.floor origin
   pub field : G.field sweep.rover ≡ G.field origin
-  pub workings : Workings (G.floor origin) (G.place origin) asked sweep.moves sweep.home sweep.start sweep.marks
+  pub workings : Workings (G.floor origin) (G.place origin) asked sweep.moves sweep.home sweep.start sweep.marks.table
 
 -- the chart has what the sweep's moves put into it
 abbrev pub Charts : {R A : Type 0} → Ghosts R A → R → Sweep R A → List (Slot A) → Type 0

@@ -14,7 +14,7 @@ use Rattle.sweep.specs.declared.choice.Choice.{Choice}
 use Rattle.sweep.specs.declared.choice.Choice.TheVariants.{Cross, Turn, Look}
 
 -- the mark of a megacell
-unfoldable pub mark_at : List Mark → Megacell → Mark
+abbrev pub mark_at : List Mark → Megacell → Mark
 mark_at marks m = slice_index_or marks (number_of m) New
 
 -- what a mark says of a megacell, over the start and the places entered: it is new; or it is old without a parent; or it is old and its parent, old too, lies in this heading
@@ -24,12 +24,12 @@ Says s ps m Root = (old s ps m ≡ true) × (parent s ps m ≡ None)
 Says s ps m (Under k) = (old s ps m ≡ true) × ((z : Megacell) × (parent s ps m ≡ Some z) × (beside m k ≡ Some z) × (old s ps z ≡ true))
 
 -- whether the parent lies in this heading
-unfoldable pub leads : Mark → Heading → Bool
+abbrev pub leads : Mark → Heading → Bool
 leads New e = false
 leads Root e = false
 leads (Under k) e = same_heading e k
 
-unfoldable pub look_if_new : Mark → Megacell → Choice
+abbrev pub look_if_new : Mark → Megacell → Choice
 look_if_new New y = Look y
 look_if_new Root y = Turn
 look_if_new (Under k) y = Turn
@@ -39,7 +39,7 @@ choice_by marks x e None = Turn
 choice_by marks x e (Some y) = cond (leads (mark_at marks x) e) Cross (look_if_new (mark_at marks y) y)
 
 -- what to do at a place, before any look
-unfoldable pub choice : List Mark → Place → Choice
+abbrev pub choice : List Mark → Place → Choice
 choice marks p = choice_by marks (megacell_of p) (exit p) (beside (megacell_of p) (exit p))
 
 -- the move that follows, by the exit and whether its side is open

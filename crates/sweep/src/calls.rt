@@ -9,69 +9,63 @@ use crate::sweep::Sweep;
 use chart::slot::Slot;
 use rover::meaning::Rover;
 
-/// An advance whose letter goes to byte `written`; not asked where there is no such byte. Answers how many
-/// letters are written then.
+// The chart's slots stay a parameter of each call: a rule of the project, a chart is kept in no struct.
+
+/// An advance whose letter goes to byte 0; not asked where there is no such byte. Answers how many letters it wrote.
 fn advance_into<R: Rover>(
     sweep: &mut Sweep<R>,
     slots: &mut [Slot<R::Reading>],
     tour: &mut [u8],
-    written: usize,
 ) -> usize
-    requires { written ≤ length tour.old }
-    ensures { Makes R.Rover sweep.old slots.old tour.old written sweep.new slots.new tour.new result 1 }
+    ensures { Makes R.Rover sweep.old slots.old tour.old sweep.new slots.new tour.new result 1 }
 {
-    if written == tour.len() {
-        return written;
+    if tour.is_empty() {
+        return 0;
     }
     match sweep.advance(slots) {
         Ok(moved) => {
-            tour[written] = moved.heading.letter();
-            written + 1
+            tour[0] = moved.heading.letter();
+            1
         }
-        Err(_) => written,
+        Err(_) => 0,
     }
 }
 
-/// A run of so many bytes whose letters go to byte `written` and on; where fewer are left it has those. Answers
-/// how many letters are written then.
+/// A run of so many bytes whose letters go to byte 0 and on; where fewer are there it has those. Answers how many
+/// letters it wrote.
 fn run_into<R: Rover>(
     sweep: &mut Sweep<R>,
     slots: &mut [Slot<R::Reading>],
     tour: &mut [u8],
-    written: usize,
     bytes: usize,
 ) -> usize
-    requires { written ≤ length tour.old }
-    ensures { Makes R.Rover sweep.old slots.old tour.old written sweep.new slots.new tour.new result bytes }
+    ensures { Makes R.Rover sweep.old slots.old tour.old sweep.new slots.new tour.new result bytes }
 {
-    let left = tour.len() - written;
-    let part = if bytes < left { bytes } else { left };
-    match sweep.run(slots, &mut tour[written..written + part]) {
-        Ok(ran) => written + ran.letters,
-        Err(_) => written,
+    let part = bytes.min(tour.len());
+    match sweep.run(slots, &mut tour[..part]) {
+        Ok(ran) => ran.letters,
+        Err(_) => 0,
     }
 }
 
-/// One call on a sweep.
+/// One call on a sweep. Answers how many letters it wrote.
 fn make_call<R: Rover>(
     sweep: &mut Sweep<R>,
     call: Call,
     slots: &mut [Slot<R::Reading>],
     tour: &mut [u8],
-    written: usize,
 ) -> usize
-    requires { written ≤ length tour.old }
-    ensures { Makes R.Rover sweep.old slots.old tour.old written sweep.new slots.new tour.new result (wants call) }
+    ensures { Makes R.Rover sweep.old slots.old tour.old sweep.new slots.new tour.new result (wants call) }
 {
     match call {
-        Call::Advance => advance_into(sweep, slots, tour, written),
-        Call::Run(bytes) => run_into(sweep, slots, tour, written, bytes),
+        Call::Advance => advance_into(sweep, slots, tour),
+        Call::Run(bytes) => run_into(sweep, slots, tour, bytes),
         Call::Ask => {
             let _ = sweep.moves();
             let _ = sweep.looks();
             let _ = sweep.megacells();
             let _ = sweep.home();
-            written
+            0
         }
     }
 }
@@ -95,7 +89,7 @@ pub fn make_calls<R: Rover>(
     let mut sweep = Sweep::start(rover);
     let mut written = 0;
     for call in calls {
-        written = make_call(&mut sweep, *call, slots, tour, written);
+        written += make_call(&mut sweep, *call, slots, &mut tour[written..]);
     }
     sweep
 }

@@ -6,4 +6,5 @@ pub mod calls;
 mod choice;
 pub mod faults;
 mod mark;
+mod marks;
 pub mod sweep;

@@ -1,4 +1,4 @@
-use crate::mark::Mark;
+use crate::marks::Marks;
 use board::heading::Heading;
 use board::place::Place;
 use rover::meaning::Rover;
@@ -7,7 +7,7 @@ use rover::meaning::Rover;
 pub struct Sweep<R: Rover> {
     rover: R,
     start: Place,
-    marks: [Mark; 1024],
+    marks: Marks,
     moves: u32,
     looks: u32,
     megacells: u32,

@@ -129,17 +129,9 @@ mod tests {
         let (_rover, record) = sweep.end();
         assert!(rt; ran?.home);
         assert_eq!(rt; record.moves, 4);
-        match again {
-            Ok(_) => {
-                assert!(rt; false);
-                Ok(())
-            },
-            Err(fault) => {
-                assert_eq!(rt; fault.number(), 14);
-                assert_eq!(rt; fault.place(), 0);
-                Ok(())
-            }
-        }
+        let refused = again.err().map(|fault| (fault.number(), fault.place()));
+        assert_eq!(rt; refused, Some((14, 0)));
+        Ok(())
     }
 
     // a list of calls writes the letters of all its moves in order

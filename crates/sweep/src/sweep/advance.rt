@@ -10,7 +10,6 @@ use super::{Moved, Sweep};
 use crate::choice::Choice;
 use crate::faults::SweepFault;
 use crate::mark::Mark;
-use crate::mark::table::{choose, set_mark};
 use board::heading::Heading;
 use board::megacell::Megacell;
 use chart::faults::ChartFault;
@@ -61,7 +60,7 @@ impl<R: Rover> Sweep<R> {
     fn find(&mut self, megacell: Megacell, back: Heading)
         ensures { Finds self.old megacell back self.new }
     {
-        set_mark(&mut self.marks, megacell, Mark::Under(back));
+        self.marks.set(megacell, Mark::Under(back));
         self.megacells = self.megacells.saturating_add(1);
     }
 
@@ -74,7 +73,7 @@ impl<R: Rover> Sweep<R> {
     {
         let place = self.rover.place();
         let exit = place.exit();
-        match choose(&self.marks, place) {
+        match self.marks.choose(place) {
             Choice::Cross => self.step(exit, slots),
             Choice::Turn => self.step(exit.left(), slots),
             Choice::Look(other) => {

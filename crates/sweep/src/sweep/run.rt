@@ -35,14 +35,18 @@ impl<R: Rover> Sweep<R> {
         ensures short { (origin : R) (asked : ℕ) → length slots.old < 4096 → Journey R.Rover origin asked self.old → Journey R.Rover origin asked self.new }
     {
         need_chart(slots)?;
-        let mut letters = 0;
-        while letters < tour.len() && !self.home {
+        for (letters, byte) in tour.iter_mut().enumerate() {
+            if self.home {
+                return Ok(Ran {
+                    letters,
+                    home: true,
+                });
+            }
             let moved = self.advance(slots)?;
-            tour[letters] = moved.heading.letter();
-            letters += 1;
+            *byte = moved.heading.letter();
         }
         Ok(Ran {
-            letters,
+            letters: tour.len(),
             home: self.home,
         })
     }

@@ -5,7 +5,7 @@ ghost use Rattle.sweep.specs.Journey.{Journey, Charts, Ended};
 ghost use Rattle.sweep.specs.Single.{Begun};
 
 use super::{Record, Sweep};
-use crate::mark::table::fresh;
+use crate::marks::Marks;
 use rover::meaning::Rover;
 
 impl<R: Rover> Sweep<R> {
@@ -16,11 +16,10 @@ impl<R: Rover> Sweep<R> {
         ensures chart { (slots : List (SlotOf R.Reading)) → Blank slots → Charts R.Rover rover result slots }
     {
         let start = rover.place();
-        let marks = fresh(start);
         Sweep {
             rover,
             start,
-            marks,
+            marks: Marks::fresh(start),
             moves: 0,
             looks: 0,
             megacells: 1,
@@ -33,21 +32,22 @@ impl<R: Rover> Sweep<R> {
         ensures is { (result.0 ≡ self.rover) × (result.1.moves ≡ self.moves) × (result.1.looks ≡ self.looks) × (result.1.megacells ≡ self.megacells) × (result.1.home ≡ self.home) }
         ensures law { (origin : R) (asked : ℕ) → Journey R.Rover origin asked self → Ended R.Rover origin asked result.0 result.1 }
     {
-        let record = Record {
-            moves: self.moves,
-            looks: self.looks,
-            megacells: self.megacells,
-            home: self.home,
-        };
+        // Each field is named: a sweep is not `Drop`, so that the language takes no `..` here.
         let Sweep {
             rover,
             start: _,
             marks: _,
-            moves: _,
-            looks: _,
-            megacells: _,
-            home: _,
+            moves,
+            looks,
+            megacells,
+            home,
         } = self;
+        let record = Record {
+            moves,
+            looks,
+            megacells,
+            home,
+        };
         (rover, record)
     }
 }
