@@ -134,7 +134,7 @@ mod tests {
     // a chart of counts, and one of lights
     #[test]
     fn charts(rt: HostRuntime) -> Result<(), Fail> {
-        let mut few = [Slot::Holds(7u16), Slot::Empty];
+        let mut few = [Some(7u16), None];
         match slots::empty(&mut few) {
             Ok(()) => {
                 assert!(rt; false);
@@ -153,7 +153,7 @@ mod tests {
         let rover = DrawnRover::new(Drawing::read(b"S9\n.#\n")?);
         let mut chart = Vec::new(rt.alloc());
         for _ in 0..4097 {
-            chart.push(Slot::Holds(Light::Lux(1.0)))?;
+            chart.push(Some(Light::Lux(1.0)))?;
         }
         slots::empty(chart.as_mut_slice())?;
         slots::put(chart.as_mut_slice(), rover.place(), rover.read())?;
@@ -163,8 +163,8 @@ mod tests {
         }
         assert!(rt; chart.len() == 4097);
         match &chart[4096] {
-            Slot::Holds(_) => Ok(()),
-            Slot::Empty => {
+            Some(_) => Ok(()),
+            None => {
                 assert!(rt; false);
                 Ok(())
             },

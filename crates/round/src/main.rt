@@ -68,7 +68,7 @@ fn refuse<F: Fault>(rt: &HostRuntime, fault: &F) -> anyhow::Result<()> {
 fn chart_of<T: Drop>(heap: Global) -> Result<Vec<Slot<T>>, AllocError> {
     let mut chart = Vec::new(heap);
     for _ in 0..4096 {
-        chart.push(Slot::Empty)?;
+        chart.push(None)?;
     }
     Ok(chart)
 }

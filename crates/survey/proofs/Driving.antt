@@ -3,8 +3,7 @@ use Rattle.std.proofs.Common.{◌≡◌, ℕ, ◌+◌, ◌≤◌, List, length, 
 use Rattle.std.proofs.lemmas.Bool.{cases_lt}
 use Rattle.board.specs.Headings.{letter}
 use Rattle.rover.specs.declared.meaning.Rover.{Ghosts}
-use Rattle.chart.specs.declared.slot.Slot.{Slot}
-use Rattle.chart.specs.Charts.{SameBeyond}
+use Rattle.chart.specs.Charts.{Slot, SameBeyond}
 use Rattle.tour.specs.History.{old, times}
 use Rattle.tour.specs.Tour.{tour, letters, visited, move_after, tour_looks, home_after}
 use Rattle.tour.proofs.Numbers.{one_number}

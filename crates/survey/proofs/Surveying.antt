@@ -8,8 +8,7 @@ use Rattle.board.specs.declared.heading.Heading.TheVariants.{North, East, South,
 use Rattle.board.specs.Squares.{Place}
 use Rattle.board.specs.Floors.{Floor}
 use Rattle.board.specs.Headings.{letter}
-use Rattle.chart.specs.declared.slot.Slot.{Slot}
-use Rattle.chart.specs.Charts.{SameBeyond}
+use Rattle.chart.specs.Charts.{Slot, SameBeyond}
 use Rattle.tour.specs.Tour.{tour, letters}
 use Rattle.sheet.specs.declared.faults.SheetFault.{SheetFault}
 use Rattle.sheet.specs.declared.faults.SheetFault.TheVariants.{Short}

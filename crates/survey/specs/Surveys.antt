@@ -1,13 +1,11 @@
 -- What a survey answers and leaves.
-use Rattle.std.specs.Prelude.{◌≡◌, ℕ, ◌<◌, ◌≤◌, true, List, ◌++◌, length, drop, Ok, Err, Result}
+use Rattle.std.specs.Prelude.{◌≡◌, ℕ, ◌<◌, ◌≤◌, true, List, ◌++◌, length, drop, Ok, Err, Result, None, Some}
 use Rattle.fault.specs.declared.layer.Layer.TheVariants.{Sheet as SheetLayer}
 use Rattle.fault.specs.Refusals.{refused}
 use Rattle.board.specs.Squares.{Place}
 use Rattle.board.specs.Floors.{Floor}
 use Rattle.board.specs.Places.{megacell_of}
-use Rattle.chart.specs.declared.slot.Slot.{Slot}
-use Rattle.chart.specs.declared.slot.Slot.TheVariants.{Empty, Holds}
-use Rattle.chart.specs.Charts.{slot_at, SameBeyond, TooFew}
+use Rattle.chart.specs.Charts.{Slot, slot_at, SameBeyond, TooFew}
 use Rattle.tour.specs.Ground.{Ground}
 use Rattle.tour.specs.Tour.{tour, letters, home_after}
 use Rattle.sweep.specs.Promise.{OnChart}
@@ -25,8 +23,8 @@ pub record Driven {A : Type 0} (floor : Floor) (field : Place → A) (s : Place)
   pub beyond : SameBeyond slots slots_after
   pub tour : bytes_after ≡ letters (tour floor s n) ++ drop n bytes
   -- and where the run ended home, the chart has each subcell of the ground and nothing else
-  pub ground : home_after floor s n ≡ true → (p : Place) → Ground floor s (megacell_of p) → slot_at slots_after p ≡ Holds (field p)
-  pub elsewhere : (p : Place) → (Ground floor s (megacell_of p) → ⊥) → slot_at slots_after p ≡ Empty
+  pub ground : home_after floor s n ≡ true → (p : Place) → Ground floor s (megacell_of p) → slot_at slots_after p ≡ Some (field p)
+  pub elsewhere : (p : Place) → (Ground floor s (megacell_of p) → ⊥) → slot_at slots_after p ≡ None
 
 -- the three buffers that a survey is lent
 pub record Lent (A : Type 0) : Type 0 where

@@ -1,8 +1,7 @@
 //! What the survey programs share: their buffers, and how they write what a survey answered.
 #![tactic(auto)]
 
-ghost use Rattle.std.specs.Prelude.{◌≡◌, replicate, IfOk};
-ghost use Rattle.chart.specs.declared.slot.Slot.TheVariants.{Empty};
+ghost use Rattle.std.specs.Prelude.{◌≡◌, replicate, IfOk, None};
 ghost use Rattle.survey_program.specs.Shown.{Shown};
 
 use chart::slot::Slot;
@@ -19,11 +18,11 @@ pub const SHEET: usize = 4096 + 64 + 64;
 
 /// A chart of empty slots for a kind of reading; or want of memory.
 pub fn chart_of<T: Drop>(heap: Global) -> Result<Vec<Slot<T>>, AllocError>
-    ensures { IfOk result (λ v. v.items ≡ replicate 4096 Empty) }
+    ensures { IfOk result (λ v. v.items ≡ replicate 4096 None) }
 {
     let mut chart = Vec::new(heap);
     for _i in 0..4096usize {
-        chart.push(Slot::Empty)?;
+        chart.push(None)?;
     }
     Ok(chart)
 }

@@ -20,7 +20,7 @@ mod tests {
     fn slots(heap: Global, count: usize) -> Result<Vec<Slot<Light>>, Fail> {
         let mut chart = Vec::new(heap);
         for _ in 0..count {
-            chart.push(Slot::Empty)?;
+            chart.push(None)?;
         }
         Ok(chart)
     }
@@ -128,7 +128,7 @@ mod tests {
     fn log_before_chart(rt: HostRuntime) -> Result<(), Fail> {
         let mut tour = [0u8; 3];
         let mut sheet = [0u8; 64];
-        let mut chart = [Slot::Empty, Slot::Holds(7u16)];
+        let mut chart = [None, Some(7u16)];
         refused(
             &rt,
             survey_log(&[0u8; 8], 0, &mut chart, &mut tour, &mut sheet),

@@ -10,8 +10,7 @@ use Rattle.board.specs.Headings.{letter}
 use Rattle.board.specs.Floors.{Floor, Lawful}
 use Rattle.tour.specs.Tour.{tour, letters, visited, move_after, Whole}
 use Rattle.rover.specs.declared.meaning.Rover.{Ghosts}
-use Rattle.chart.specs.declared.slot.Slot.{Slot}
-use Rattle.chart.specs.Charts.{Blank, SameBeyond}
+use Rattle.chart.specs.Charts.{Slot, Blank, SameBeyond}
 use Rattle.sweep.specs.declared.sweep.Sweep.{Sweep}
 use Rattle.sweep.specs.declared.faults.SweepFault.{SweepFault}
 use Rattle.sweep.specs.declared.faults.SweepFault.TheVariants.{Chart, Home, Rover}

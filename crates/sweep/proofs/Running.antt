@@ -1,5 +1,5 @@
 -- What a run keeps from move to move.
-use Rattle.std.proofs.Common.{◌≡◌, ℕ, ◌+◌, ◌<◌, ◌≤◌, true, false, ◌≢◌, ◌⊎◌, List, [], ◌∷◌, ◌++◌, length, get_or, set, sym, refl, ap, ◌∙◌, subst, inl, inr, append_assoc, arith, get_or-set_other, get_or-set_same, below_more}
+use Rattle.std.proofs.Common.{◌≡◌, ℕ, ◌+◌, ◌<◌, ◌≤◌, true, false, ◌≢◌, ◌⊎◌, List, [], ◌∷◌, ◌++◌, length, get_or, set, sym, refl, ap, ◌∙◌, subst, inl, inr, append_assoc, arith, get_or-set_other, get_or-set_same, below_more, None, Some}
 use Rattle.std.proofs.lemmas.Bool.{both_ways}
 use Rattle.board.specs.declared.heading.Heading.{Heading}
 use Rattle.board.specs.Squares.{Place}
@@ -10,14 +10,12 @@ use Rattle.tour.specs.History.{here}
 use Rattle.tour.specs.Tour.{visited, move_after}
 use Rattle.tour.proofs.Reach.{one_move_enters, at_most_4096_moves}
 use Rattle.rover.specs.declared.meaning.Rover.{Ghosts}
-use Rattle.chart.specs.declared.slot.Slot.{Slot}
+use Rattle.chart.specs.Charts.{Slot, SameBeyond}
 use Rattle.sweep.specs.declared.sweep.Sweep.{Sweep}
 use Rattle.sweep.specs.Promise.{filled, Filled, NextMove, Letters}
 use Rattle.sweep.specs.Journey.{Journey, Charts}
 use Rattle.fault.specs.declared.layer.Layer.TheVariants.{Rover as RoverLayer}
 use Rattle.fault.specs.Refusals.{refused}
-use Rattle.chart.specs.declared.slot.Slot.TheVariants.{Empty, Holds}
-use Rattle.chart.specs.Charts.{SameBeyond}
 use Rattle.sweep.specs.declared.faults.SweepFault.{SweepFault}
 use Rattle.sweep.specs.declared.faults.SweepFault.TheVariants.{Chart, Home, Rover}
 use Rattle.sweep.specs.Calls.{Told}
@@ -35,7 +33,7 @@ fills_none floor field s n slots = record { places = []; enters = refl; fills = 
 filled_on : {A : Type 0} (field : Place → A) (ps qs : List Place) (slots : List (Slot A)) → filled field ps (filled field qs slots) ≡ filled field (ps ++ qs) slots
 unfolding filled
 filled_on field [] qs slots = refl
-filled_on {A = A} field (p ∷ ps) qs slots = ap (λ (x : List (Slot A)). set x (slot_of p) (Holds (field p))) (filled_on field ps qs slots)
+filled_on {A = A} field (p ∷ ps) qs slots = ap (λ (x : List (Slot A)). set x (slot_of p) (Some (field p))) (filled_on field ps qs slots)
 
 pub fills_on : {A : Type 0} {floor : Floor} {field : Place → A} {s : Place} {n m k : ℕ} {slots mid after : List (Slot A)} → Filled floor field s n m slots mid → Filled floor field s m k mid after → Filled floor field s n k slots after
 fills_on {floor = floor} {field = field} {s = s} {n = n} {slots = slots} a b = record {
@@ -50,7 +48,7 @@ next_visits floor s n h q w =
     let e = one_move_enters floor s n in
     e ∙ ap (λ (x : Place). x ∷ visited floor s n) (sym (w.place ∙ ap (here s) e))
 
-pub move_fills : {A : Type 0} {floor : Floor} {field : Place → A} {s : Place} {n m : ℕ} {h : Heading} {q : Place} {slots after : List (Slot A)} → NextMove floor s n h q → m ≡ n + 1 → after ≡ set slots (slot_of q) (Holds (field q)) → Filled floor field s n m slots after
+pub move_fills : {A : Type 0} {floor : Floor} {field : Place → A} {s : Place} {n m : ℕ} {h : Heading} {q : Place} {slots after : List (Slot A)} → NextMove floor s n h q → m ≡ n + 1 → after ≡ set slots (slot_of q) (Some (field q)) → Filled floor field s n m slots after
 unfolding filled
 move_fills {floor = floor} {s = s} {n = n} {h = h} {q = q} w e c = record {
   places = q ∷ [];
@@ -99,10 +97,10 @@ run_of_no_move {G = G} {sweep = sweep} {slots = slots} room = record {
 pub move_leaves_beyond : {R A : Type 0} {G : Ghosts R A} {sweep after : Sweep R A} {slots slots_after : List (Slot A)} {h : Heading} {q : Place} → Steps G sweep slots after slots_after h q → SameBeyond slots slots_after
 move_leaves_beyond {A = A} {G = G} {sweep = sweep} {slots = slots} {q = q} m i k =
     let ne : i ≢ slot_of q = omega arith in
-    ap (λ (x : List (Slot A)). get_or x i Empty) m.charted ∙ get_or-set_other slots (slot_of q) i (Holds (G.field sweep.rover q)) Empty ne
+    ap (λ (x : List (Slot A)). get_or x i None) m.charted ∙ get_or-set_other slots (slot_of q) i (Some (G.field sweep.rover q)) None ne
 
 pub refusal_leaves_beyond : {R A : Type 0} {G : Ghosts R A} {sweep after : Sweep R A} {slots slots_after : List (Slot A)} → Still G sweep slots after slots_after → SameBeyond slots slots_after
-refusal_leaves_beyond {A = A} s i k = ap (λ (x : List (Slot A)). get_or x i Empty) s.chart
+refusal_leaves_beyond {A = A} s i k = ap (λ (x : List (Slot A)). get_or x i None) s.chart
 
 module _ {R A : Type 0} {G : Ghosts R A} (laws : (r : R) → Lawful (G.floor r)) {sweep : Sweep R A} {slots : List (Slot A)} {before : List ℕ} {after : Sweep R A} {slots_after : List (Slot A)} {bytes : List ℕ} {letters : ℕ}
     (run : Running G sweep slots before after slots_after bytes letters) where
@@ -141,7 +139,7 @@ module _ {R A : Type 0} {G : Ghosts R A} (laws : (r : R) → Lawful (G.floor r))
                   (λ i k. let ne : i ≢ letters = omega arith in get_or-set_other bytes letters i byte 0 ne ∙ t.writes i k)
                   (get_or-set_same bytes letters byte 0 (omega arith)
                   ∙ is ∙ ap letter (next.heading ∙ ap (λ (k : ℕ). (move_after (G.floor origin) (G.place origin) k).heading) t.moves));
-              fills = fills_on t.fills (move_fills next one (m.charted ∙ ap (λ (f : Place → A). set slots_after (slot_of q) (Holds (f q))) t.journey.field));
+              fills = fills_on t.fills (move_fills next one (m.charted ∙ ap (λ (f : Place → A). set slots_after (slot_of q) (Some (f q))) t.journey.field));
             };
         chart = λ origin asked st ch. chart origin (asked + letters) (run.law origin asked st).journey (run.chart origin asked st ch);
       }

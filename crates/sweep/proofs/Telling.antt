@@ -1,5 +1,5 @@
 -- From what the code does by its table to the promise: at the start, by a move, and at home.
-use Rattle.std.proofs.Common.{◌≡◌, ℕ, ◌+◌, ◌<◌, ◌≤◌, Bool, true, false, ◌≢◌, List, [], ◌∷◌, length, set, Ok, Err, Result, sym, refl, ap, ◌∙◌, subst, inl, inr, add-one, arith, length-set, get_or-set_other, get_or-set_same, MatchResult}
+use Rattle.std.proofs.Common.{◌≡◌, ℕ, ◌+◌, ◌<◌, ◌≤◌, Bool, true, false, ◌≢◌, List, [], ◌∷◌, length, set, Ok, Err, Result, sym, refl, ap, ◌∙◌, subst, inl, inr, add-one, arith, length-set, get_or-set_other, get_or-set_same, MatchResult, None, Some}
 use Rattle.std.proofs.lemmas.Bool.{both_ways, cases_Bool}
 use Rattle.board.specs.declared.heading.Heading.{Heading}
 use Rattle.board.specs.Squares.{Place, same_square}
@@ -18,9 +18,7 @@ use Rattle.tour.proofs.Numbers.{one_number, at_most_1024, one_old_at_start}
 use Rattle.tour.proofs.Reach.{one_move_enters, one_move_looks, at_most_4096_moves, underway_one_more, home_at_four_a_megacell, not_home_before_four_a_megacell, ground_has_number}
 use Rattle.rover.specs.declared.meaning.Rover.{Ghosts}
 use Rattle.rover.specs.Drive.{counted, Blocked}
-use Rattle.chart.specs.declared.slot.Slot.{Slot}
-use Rattle.chart.specs.declared.slot.Slot.TheVariants.{Empty, Holds}
-use Rattle.chart.specs.Charts.{slot_at, Blank}
+use Rattle.chart.specs.Charts.{Slot, slot_at, Blank}
 use Rattle.sweep.specs.declared.mark.Mark.{Mark}
 use Rattle.sweep.specs.declared.faults.SweepFault.{SweepFault}
 use Rattle.sweep.specs.declared.faults.SweepFault.TheVariants.{Home}
@@ -62,27 +60,27 @@ one_place_to_a_slot : (p q : Place) → slot_of p ≡ slot_of q → p ≡ q
 one_place_to_a_slot p q e = square_path p q (omega arith) (omega arith)
 
 slot_is_set : {A : Type 0} (slots : List (Slot A)) (q : Place) (v : Slot A) → 4096 ≤ length slots → slot_at (set slots (slot_of q) v) q ≡ v
-slot_is_set slots q v h = get_or-set_same slots (slot_of q) v Empty (omega arith)
+slot_is_set slots q v h = get_or-set_same slots (slot_of q) v None (omega arith)
 
 other_slots_stay : {A : Type 0} (slots : List (Slot A)) (q p : Place) (v : Slot A) → same_square p q ≡ false → slot_at (set slots (slot_of q) v) p ≡ slot_at slots p
 other_slots_stay slots q p v e =
     let ne : slot_of p ≢ slot_of q = λ i. both_ways _ e (ap (λ (x : Place). same_square x q) (one_place_to_a_slot p q i) ∙ same_square_refl q) in
-    get_or-set_other slots (slot_of q) (slot_of p) v Empty ne
+    get_or-set_other slots (slot_of q) (slot_of p) v None ne
 
 charted_after_a_move : {A : Type 0} (field : Place → A) (slots : List (Slot A)) (ps : List Place) (q : Place) → 4096 ≤ length slots →
-    ((p : Place) → 1 ≤ many (same_square p) ps → slot_at slots p ≡ Holds (field p)) →
-    (p : Place) → 1 ≤ many (same_square p) (q ∷ ps) → slot_at (set slots (slot_of q) (Holds (field q))) p ≡ Holds (field p)
+    ((p : Place) → 1 ≤ many (same_square p) ps → slot_at slots p ≡ Some (field p)) →
+    (p : Place) → 1 ≤ many (same_square p) (q ∷ ps) → slot_at (set slots (slot_of q) (Some (field q))) p ≡ Some (field p)
 unfolding many bit
 charted_after_a_move field slots ps q room held p h = elim (cases_Bool (same_square p q)) [
   | inl e ↦
       let is = same_square_true p q e in
-      ap (slot_at (set slots (slot_of q) (Holds (field q)))) is ∙ slot_is_set slots q (Holds (field q)) room ∙ ap (λ (x : Place). Holds (field x)) (sym is)
-  | inr e ↦ other_slots_stay slots q p (Holds (field q)) e ∙ held p (omega (arith, ap bit e))
+      ap (slot_at (set slots (slot_of q) (Some (field q)))) is ∙ slot_is_set slots q (Some (field q)) room ∙ ap (λ (x : Place). Some (field x)) (sym is)
+  | inr e ↦ other_slots_stay slots q p (Some (field q)) e ∙ held p (omega (arith, ap bit e))
 ]
 
 blank_after_a_move : {A : Type 0} (slots : List (Slot A)) (v : Slot A) (ps : List Place) (q : Place) →
-    ((p : Place) → many (same_square p) ps ≡ 0 → slot_at slots p ≡ Empty) →
-    (p : Place) → many (same_square p) (q ∷ ps) ≡ 0 → slot_at (set slots (slot_of q) v) p ≡ Empty
+    ((p : Place) → many (same_square p) ps ≡ 0 → slot_at slots p ≡ None) →
+    (p : Place) → many (same_square p) (q ∷ ps) ≡ 0 → slot_at (set slots (slot_of q) v) p ≡ None
 unfolding many bit
 blank_after_a_move slots v ps q clear p h = elim (cases_Bool (same_square p q)) [
   | inl e ↦ absurd (omega (arith, ap bit e))
@@ -215,8 +213,8 @@ module _ {R A : Type 0} (G : Ghosts R A) (origin : R) (law : Lawful (G.floor ori
     unfolding home
     homed_after = m.home ∙ ap (same_square q) st.workings.begun ∙ sym (ap (home (G.place origin)) enters_after)
 
-    slots_is : slots_after ≡ set slots (slot_of q) (Holds (G.field origin q))
-    slots_is = m.charted ∙ ap (λ (fd : Place → A). set slots (slot_of q) (Holds (fd q))) st.field
+    slots_is : slots_after ≡ set slots (slot_of q) (Some (G.field origin q))
+    slots_is = m.charted ∙ ap (λ (fd : Place → A). set slots (slot_of q) (Some (fd q))) st.field
 
     underway_after : Underway (G.floor origin) (G.place origin) after.moves
     underway_after = underway_at (G.floor origin) (G.place origin) after.moves (sweep.moves + 1) one_more
@@ -249,9 +247,9 @@ module _ {R A : Type 0} (G : Ghosts R A) (origin : R) (law : Lawful (G.floor ori
     move_keeps_chart ch =
         let qs = visited (G.floor origin) (G.place origin) sweep.moves in
         record {
-          room = omega (arith, ch.room, ap length slots_is, length-set slots (slot_of q) (Holds (G.field origin q)));
+          room = omega (arith, ch.room, ap length slots_is, length-set slots (slot_of q) (Some (G.field origin q)));
           charted = λ p i. ap (λ (x : List (Slot A)). slot_at x p) slots_is ∙ charted_after_a_move (G.field origin) slots qs q ch.room ch.charted p (subst (λ (x : List Place). 1 ≤ many (same_square p) x) enters_after i);
-          blank = λ p i. ap (λ (x : List (Slot A)). slot_at x p) slots_is ∙ blank_after_a_move slots (Holds (G.field origin q)) qs q ch.blank p (subst (λ (x : List Place). many (same_square p) x ≡ 0) enters_after i);
+          blank = λ p i. ap (λ (x : List (Slot A)). slot_at x p) slots_is ∙ blank_after_a_move slots (Some (G.field origin q)) qs q ch.blank p (subst (λ (x : List Place). many (same_square p) x ≡ 0) enters_after i);
         }
 
     -- a move keeps the law

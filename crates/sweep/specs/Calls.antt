@@ -2,8 +2,7 @@
 use Rattle.std.specs.Prelude.{◌≡◌, ℕ, ◌+◌, ◌<◌, ◌≤◌, min, List, length}
 use Rattle.std.specs.List.{sum_by}
 use Rattle.rover.specs.declared.meaning.Rover.{Ghosts}
-use Rattle.chart.specs.declared.slot.Slot.{Slot}
-use Rattle.chart.specs.Charts.{SameBeyond}
+use Rattle.chart.specs.Charts.{Slot, SameBeyond}
 use Rattle.sweep.specs.declared.call.Call.{Call}
 use Rattle.sweep.specs.declared.call.Call.TheVariants.{Advance, Run, Ask}
 use Rattle.sweep.specs.declared.sweep.Sweep.{Sweep}

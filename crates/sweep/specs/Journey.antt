@@ -5,7 +5,7 @@ use Rattle.rover.specs.Drive.{counted}
 use Rattle.board.specs.Squares.{Megacell, Place}
 use Rattle.board.specs.Floors.{Floor}
 use Rattle.tour.specs.Tour.{tour, letters, visited, home_after, Underway}
-use Rattle.chart.specs.declared.slot.Slot.{Slot}
+use Rattle.chart.specs.Charts.{Slot}
 use Rattle.sweep.specs.declared.mark.Mark.{Mark}
 use Rattle.sweep.specs.declared.sweep.Sweep.{Sweep}
 use Rattle.sweep.specs.declared.sweep.Record.{Record}

@@ -1,5 +1,5 @@
 -- What a sweep promises, over its history: it began at the place s on this floor, and made the first n moves of the tour that the rules give from there.
-use Rattle.std.specs.Prelude.{◌≡◌, ℕ, ◌+◌, ◌*◌, ◌<◌, ◌≤◌, min, Bool, true, List, [], ◌∷◌, ◌++◌, length, slice_index, slice_set}
+use Rattle.std.specs.Prelude.{◌≡◌, ℕ, ◌+◌, ◌*◌, ◌<◌, ◌≤◌, min, Bool, true, List, [], ◌∷◌, ◌++◌, length, slice_index, slice_set, None, Some}
 use Rattle.board.specs.declared.heading.Heading.{Heading}
 use Rattle.board.specs.Squares.{Place}
 use Rattle.board.specs.Headings.{letter}
@@ -8,9 +8,7 @@ use Rattle.board.specs.Floors.{Floor}
 use Rattle.tour.specs.History.{times, Has, here, old}
 use Rattle.tour.specs.Ground.{Ground, Number}
 use Rattle.tour.specs.Tour.{visited, move_after, tour_looks, Whole}
-use Rattle.chart.specs.declared.slot.Slot.{Slot}
-use Rattle.chart.specs.declared.slot.Slot.TheVariants.{Empty, Holds}
-use Rattle.chart.specs.Charts.{slot_at}
+use Rattle.chart.specs.Charts.{Slot, slot_at}
 
 -- The calls so far asked for so many moves in all: an advance for one, a run for as many as its buffer has bytes.
 -- The rover stands at `place`; the sweep tells n moves, so many looks and megacells, and whether it is home.
@@ -38,13 +36,13 @@ pub record Promise (floor : Floor) (s : Place) (asked : ℕ) (place : Place) (n 
 -- charted: the slot of each entered place holds the field's reading there, and every other slot of the chart is empty
 pub record OnChart {A : Type 0} (floor : Floor) (field : Place → A) (s : Place) (n : ℕ) (slots : List (Slot A)) : Type 0 where
   pub room : 4096 ≤ length slots
-  pub charted : (p : Place) → Has (visited floor s n) p → slot_at slots p ≡ Holds (field p)
-  pub blank : (p : Place) → times p (visited floor s n) ≡ 0 → slot_at slots p ≡ Empty
+  pub charted : (p : Place) → Has (visited floor s n) p → slot_at slots p ≡ Some (field p)
+  pub blank : (p : Place) → times p (visited floor s n) ≡ 0 → slot_at slots p ≡ None
 
 -- the slots after some places were entered, the last of them first: each got its reading, and no other slot was written
 unfoldable pub filled : {A : Type 0} → (Place → A) → List Place → List (Slot A) → List (Slot A)
 filled field [] slots = slots
-filled field (p ∷ ps) slots = slice_set (filled field ps slots) (slot_of p) (Holds (field p))
+filled field (p ∷ ps) slots = slice_set (filled field ps slots) (slot_of p) (Some (field p))
 
 -- what the moves from the first n on, up to the first m, did to the slots, whatever these held
 pub record Filled {A : Type 0} (floor : Floor) (field : Place → A) (s : Place) (n m : ℕ) (slots after : List (Slot A)) : Type 0 where

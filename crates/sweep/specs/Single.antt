@@ -1,5 +1,5 @@
 -- What one call does to a sweep, its rover, its chart and the tour buffer, whatever the sweep did before.
-use Rattle.std.specs.Prelude.{◌≡◌, ℕ, ◌<◌, ◌≤◌, Bool, true, false, List, [], length, Option, slice_set}
+use Rattle.std.specs.Prelude.{◌≡◌, ℕ, ◌<◌, ◌≤◌, Bool, true, false, List, [], length, Option, slice_set, Some}
 use Rattle.fault.specs.declared.layer.Layer.TheVariants.{Sweep as SweepLayer, Rover as RoverLayer}
 use Rattle.fault.specs.Refusals.{refused}
 use Rattle.rover.specs.declared.meaning.Rover.{Ghosts}
@@ -11,9 +11,7 @@ use Rattle.board.specs.Places.{megacell_of, slot_of}
 use Rattle.board.specs.Corners.{exit}
 use Rattle.board.specs.Floors.{Passes}
 use Rattle.tour.specs.Rules.{Move}
-use Rattle.chart.specs.declared.slot.Slot.{Slot}
-use Rattle.chart.specs.declared.slot.Slot.TheVariants.{Holds}
-use Rattle.chart.specs.Charts.{SameBeyond, TooFew}
+use Rattle.chart.specs.Charts.{Slot, SameBeyond, TooFew}
 use Rattle.sweep.specs.declared.mark.Mark.TheVariants.{Under}
 use Rattle.sweep.specs.declared.choice.Choice.{Choice}
 use Rattle.sweep.specs.declared.faults.SweepFault.{SweepFault}
@@ -41,7 +39,7 @@ pub record Steps {R A : Type 0} (G : Ghosts R A) (sweep : Sweep R A) (slots : Li
   pub driven : G.moves after.rover ≡ counted (G.moves sweep.rover)
   pub floor : G.floor after.rover ≡ G.floor sweep.rover
   pub field : G.field after.rover ≡ G.field sweep.rover
-  pub charted : slots_after ≡ slice_set slots (slot_of q) (Holds (G.field sweep.rover q))
+  pub charted : slots_after ≡ slice_set slots (slot_of q) (Some (G.field sweep.rover q))
   pub moves : after.moves ≡ counted sweep.moves
   pub home : after.home ≡ same_square q sweep.start
   pub start : after.start ≡ sweep.start

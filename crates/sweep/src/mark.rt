@@ -15,6 +15,7 @@ pub enum Mark {
 
 impl Mark {
     /// Whether the parent lies in this heading.
+    #[tactic(auto, unfolding(board::specs::Headings::same_heading, board::specs::Headings::heading_number))]
     pub(crate) fn leads(self, heading: Heading) -> bool
         ensures { result ≡ leads self heading }
     {

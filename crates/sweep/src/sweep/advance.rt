@@ -1,6 +1,5 @@
 ghost use Rattle.std.specs.Prelude.{◌≡◌, ℕ, ◌+◌, ◌<◌, ◌≤◌, true, false, length, MatchResult};
 ghost use Rattle.board.specs.Places.{megacell_of};
-ghost use Rattle.chart.specs.Charts.{TooFew};
 ghost use Rattle.sweep.specs.declared.faults.SweepFault.TheVariants.{Home};
 ghost use Rattle.sweep.specs.Promise.{NextMove};
 ghost use Rattle.sweep.specs.Journey.{Journey, Charts};
@@ -12,23 +11,13 @@ use crate::faults::SweepFault;
 use crate::mark::Mark;
 use board::heading::Heading;
 use board::megacell::Megacell;
-use chart::faults::ChartFault;
 use chart::slot::Slot;
-use chart::slots::put;
+use chart::slots::{need, put};
 use rover::meaning::Rover;
-
-/// Refuses slots that are too few for a chart.
-pub(super) fn need_chart<T>(slots: &[Slot<T>]) -> Result<(), ChartFault>
-    ensures { MatchResult result (λ _. 4096 ≤ length slots.now) (λ e. TooFew (length slots.now) e) }
-{
-    if slots.len() < 4096 {
-        return Err(ChartFault::Short { slots: slots.len() });
-    }
-    Ok(())
-}
 
 impl<R: Rover> Sweep<R> {
     /// Makes a step and charts the place entered.
+    #[tactic(auto, unfolding(board::specs::Squares::same_square))]
     fn step(
         &mut self,
         heading: Heading,
@@ -114,7 +103,7 @@ impl<R: Rover> Sweep<R> {
         ensures chart { (origin : R) (asked : ℕ) → Journey R.Rover origin asked self.old → Charts R.Rover origin self.old slots.old → Charts R.Rover origin self.new slots.new }
         ensures short { (origin : R) (asked : ℕ) → length slots.old < 4096 → Journey R.Rover origin asked self.old → Journey R.Rover origin asked self.new }
     {
-        need_chart(slots)?;
+        need(slots)?;
         self.need_underway()?;
         self.make_move(slots)
     }

@@ -3,10 +3,10 @@ ghost use Rattle.sweep.specs.Promise.{Letters, Filled};
 ghost use Rattle.sweep.specs.Journey.{Journey, Charts};
 ghost use Rattle.sweep.specs.Single.{Still, Runs, RunRefuses};
 
-use super::advance::need_chart;
 use super::{Ran, Sweep};
 use crate::faults::SweepFault;
 use chart::slot::Slot;
+use chart::slots::need;
 use rover::meaning::Rover;
 
 impl<R: Rover> Sweep<R> {
@@ -34,7 +34,7 @@ impl<R: Rover> Sweep<R> {
         ensures chart { (origin : R) (asked : ℕ) → Journey R.Rover origin asked self.old → Charts R.Rover origin self.old slots.old → Charts R.Rover origin self.new slots.new }
         ensures short { (origin : R) (asked : ℕ) → length slots.old < 4096 → Journey R.Rover origin asked self.old → Journey R.Rover origin asked self.new }
     {
-        need_chart(slots)?;
+        need(slots)?;
         for (letters, byte) in tour.iter_mut().enumerate() {
             if self.home {
                 return Ok(Ran {

@@ -1,6 +1,5 @@
 ghost use Rattle.std.specs.Prelude.{◌≡◌, ℕ, List};
-ghost use Rattle.chart.specs.declared.slot.Slot.{Slot as SlotOf};
-ghost use Rattle.chart.specs.Charts.{Blank};
+ghost use Rattle.chart.specs.Charts.{Slot as SlotOf, Blank};
 ghost use Rattle.sweep.specs.Journey.{Journey, Charts, Ended};
 ghost use Rattle.sweep.specs.Single.{Begun};
 
