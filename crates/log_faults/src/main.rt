@@ -17,13 +17,11 @@ use std::io;
 fn digit(byte: u8) -> Option<u8>
     ensures { result ≡ digit_of byte }
 {
-    if b'0' <= byte && byte <= b'9' {
-        return Some(byte - b'0');
+    match byte {
+        b'0'..=b'9' => Some(byte - b'0'),
+        b'a'..=b'f' => Some(byte - b'a' + 10),
+        _ => None,
     }
-    if b'a' <= byte && byte <= b'f' {
-        return Some(byte - b'a' + 10);
-    }
-    None
 }
 
 /// The bytes that pairs of hex digits stand for, up to the first that is none.

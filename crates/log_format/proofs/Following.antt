@@ -1,6 +1,7 @@
 -- What acceptance tells of the chain, for a lookup along it.
 use Rattle.std.proofs.Common.{◌≡◌, ℕ, ◌+◌, ◌-◌, ◌<◌, ◌≤◌, Bool, true, false, cond, eqb, List, is_some, Some, None, Ok, Err, Option, Result, sym, refl, ap, ◌∙◌, subst, inl, inr, add-one, arith}
 use Rattle.std.proofs.lemmas.Bool.{cases_lt, not-false, eq-eqb, ne_eqb, eqb-true, eqb-false, both_ways}
+use Rattle.std.proofs.lemmas.Option.{none-some}
 use Rattle.board.specs.Squares.{Megacell, same_square}
 use Rattle.board.specs.Places.{megacell_of}
 use Rattle.board.proofs.Geometry.{same_square_refl}
@@ -23,9 +24,6 @@ header_by_lem b (Err f) e a = absurd (both_ways false refl a)
 pub accepted_header : (b : List ℕ) → accepts b ≡ true → (h : Header) × (header_of b ≡ Ok h) × (is_none (ended_in b (megacell_of h.start) (stop b) (step_of b (stop b))) ≡ true)
 unfolding refusal
 accepted_header b a = header_by_lem b (header_of b) refl a
-
-pub not_refused : (b : List ℕ) (f : LogFault) → accepts b ≡ true → Err f ≡ header_of b → ⊥
-not_refused b f a e = let k = (accepted_header b a).1 in let z : ◌≡◌ {A = ℕ} 0 1 = cc in omega arith
 
 -- and its chain stops at its end
 ended_by : (b : List ℕ) (m : Megacell) (j : ℕ) (s : Result (Option Record) LogFault) → is_none (ended_in b m j s) ≡ true → s ≡ Ok None
@@ -87,7 +85,7 @@ at_stop b j h e =
 
 pub no_record_zero : (b : List ℕ) (r : Record) → record_at b 0 ≡ Some r → ⊥
 unfolding record_at
-no_record_zero b r e = let z : ◌≡◌ {A = ℕ} 0 1 = cc in omega arith
+no_record_zero b r e = none-some r e
 
 pub not_stop : (b : List ℕ) (j : ℕ) (r : Record) → accepts b ≡ true → j ≤ stop b → record_at b (index b j) ≡ Some r → j < stop b
 not_stop b j r a h e =

@@ -1,6 +1,7 @@
 -- A log is accepted exactly when it is one, and tells of the records of its chain.
 use Rattle.std.proofs.Common.{◌≡◌, ℕ, zero, suc, ◌+◌, ◌<◌, ◌≤◌, Bool, true, false, cond, not, List, set, replicate, is_some, Some, None, Ok, Option, sym, refl, ap, ◌∙◌, subst, add-one, arith}
 use Rattle.std.proofs.lemmas.Bool.{both_ways}
+use Rattle.std.proofs.lemmas.Option.{none-some}
 use Rattle.board.specs.Squares.{Megacell, number_of, same_square}
 use Rattle.board.specs.Places.{megacell_of}
 use Rattle.board.proofs.Geometry.{same_square_true, same_square_refl}
@@ -125,7 +126,7 @@ found_by b long m r (Some j) e q =
     let k = first_some (comes_to b m) long j e in
     let s = tells_by (record_at b (index b j)) m k.1 in
     (j, k.0, q, ap (λ (x : Record). x.megacell) (one_record_lem _ _ _ q s.1) ∙ s.2)
-found_by b long m r None e q = absurd (let z : ◌≡◌ {A = ℕ} 0 1 = cc in omega arith)
+found_by b long m r None e q = absurd (none-some r q)
 
 told_first : (b : List ℕ) (l : IsLog b) (m : Megacell) (r : Record) (j : ℕ) → j < l.long → Comes b j r → r.megacell ≡ m → first (comes_to b m) l.long ≡ Some j
 told_first b l m r j h c e =

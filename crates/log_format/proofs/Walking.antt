@@ -1,6 +1,7 @@
 -- What a walk along the chain knows, and what its answers need.
 use Rattle.std.proofs.Common.{◌≡◌, ℕ, zero, suc, ◌+◌, ◌<◌, ◌≤◌, Bool, true, false, cond, not, ◌||◌, eqb, ltb, List, length, get_or, set, replicate, is_some, Some, None, Ok, Err, sum_by, count_by, Option, Result, sym, refl, ap, ◌∙◌, subst, inl, inr, add-one, arith, length-set, get_or-set_other, get_or-set_same}
 use lib.ListN.{length-replicate, get_or-replicate}
+use Rattle.std.proofs.Math.Bool.{or-true, or-false}
 use Rattle.std.proofs.lemmas.List.Sums.{sum_by-set, sum_by-cons}
 use Rattle.std.proofs.lemmas.Bool.{cases_lt, cases_Bool, ltb-false, le-ltb, ne_eqb, eq-eqb, and_from, both_ways}
 use Rattle.board.specs.Squares.{Megacell, number_of, same_square}
@@ -155,20 +156,12 @@ one_number : (m n : Megacell) → number_of m ≡ number_of n → same_square m 
 unfolding same_square
 one_number m n e = and_from _ _ (eq-eqb m.row n.row (omega (arith, m.columns, n.columns))) (eq-eqb m.column n.column (omega (arith, m.columns, n.columns)))
 
-or_true : (t : Bool) → true ≡ t || true
-or_true true = refl
-or_true false = refl
-
-or_false : (t : Bool) → t ≡ t || false
-or_false true = refl
-or_false false = refl
-
 marked : (seen : List Bool) (c m : Megacell) (t : Bool) → length seen ≡ 1024 → get_or seen (number_of m) false ≡ t → get_or (set seen (number_of c) true) (number_of m) false ≡ t || same_square c m
 marked seen c m t l e =
     elim (cases_Bool (same_square c m)) [
       | inl s ↦ subst (λ x. get_or (set seen (number_of c) true) (number_of x) false ≡ t || same_square c x) (same_square_true c m s)
-          (get_or-set_same seen (number_of c) true false (omega (arith, c.rows, c.columns)) ∙ or_true t ∙ sym (ap (λ x. t || x) (same_square_refl c)))
-      | inr s ↦ get_or-set_other seen (number_of c) (number_of m) true false (λ q. both_ways _ s (one_number c m (sym q))) ∙ e ∙ or_false t ∙ sym (ap (λ x. t || x) s)
+          (get_or-set_same seen (number_of c) true false (omega (arith, c.rows, c.columns)) ∙ sym (or-true t) ∙ sym (ap (λ x. t || x) (same_square_refl c)))
+      | inr s ↦ get_or-set_other seen (number_of c) (number_of m) true false (λ q. both_ways _ s (one_number c m (sym q))) ∙ e ∙ sym (or-false t) ∙ sym (ap (λ x. t || x) s)
     ]
 
 -- one megacell fewer is unmarked

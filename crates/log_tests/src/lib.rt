@@ -8,14 +8,13 @@ ghost use Rattle.log_tests.specs.Said.{said_of};
 use fault::Fault;
 use log_format::log::Log;
 
-/// A refusal's number and place; (0, 0) of an accepted log.
-fn said(log: &[u8]) -> (u8, usize)
+/// A refusal's number and place; none of an accepted log.
+fn said(log: &[u8]) -> Option<(u8, usize)>
     ensures { result ≡ said_of (refusal log.now) }
 {
-    match Log::read(log) {
-        Ok(_) => (0, 0),
-        Err(fault) => (fault.number(), fault.place()),
-    }
+    Log::read(log)
+        .err()
+        .map(|fault| (fault.number(), fault.place()))
 }
 
 #[cfg(test)]
@@ -31,8 +30,7 @@ mod tests {
     // Puts a number into two bytes, the high one first.
     fn put(log: &mut [u8; 16409], at: usize, number: u16) {
         if at < 16408 {
-            log[at] = (number / 256) as u8;
-            log[at + 1] = (number % 256) as u8;
+            log[at..at + 2].copy_from_slice(&number.to_be_bytes());
         }
     }
 
@@ -59,42 +57,37 @@ mod tests {
     // eight zero bytes; the same with first index 1; one good record whose next is itself; a good log of one record
     #[test]
     fn worked_logs(rt: HostRuntime) {
-        assert!(rt; said(b"\x00\x00\x00\x00\x00\x00\x00\x00") == (12, 0));
-        assert!(rt; said(b"\x00\x00\x00\x01\x00\x00\x00\x00") == (9, 0));
+        assert!(rt; said(b"\x00\x00\x00\x00\x00\x00\x00\x00") == Some((12, 0)));
+        assert!(rt; said(b"\x00\x00\x00\x01\x00\x00\x00\x00") == Some((9, 0)));
         assert!(rt;
             said(
                 b"\x00\x01\x00\x01\x01\x01\x00\x00\x00\x01\x00\x00\x00\x00\x00\x00\x00\x00\x00\x00\x00\x00\x00\x00",
-            ) == (11, 1)
+            ) == Some((11, 1))
         );
         assert!(rt;
             said(
                 b"\x00\x01\x00\x01\x01\x01\x00\x00\x00\x00\x00\x00\x00\x00\x00\x00\x00\x00\x00\x00\x00\x00\x00\x00",
-            ) == (0, 0)
+            ) == None
         );
     }
 
     // 1,024 records in any order are read to the end; one more, or one byte more, is refused
     #[test]
     fn long_logs(rt: HostRuntime) {
-        assert!(rt; said(&backwards(1024, 0)[0..16392]) == (0, 0));
-        assert!(rt; said(&backwards(1024, 1)[0..16392]) == (11, 1));
-        assert!(rt; said(&backwards(1024, 1024)[0..16392]) == (11, 1024));
-        assert!(rt; said(&backwards(1024, 1025)[0..16392]) == (9, 1));
-        assert!(rt; said(&backwards(1024, 0)[0..16393]) == (7, 0));
-        assert!(rt; said(&backwards(1024, 0)[0..16391]) == (7, 0));
-        assert!(rt; said(&backwards(1023, 0)[0..16392]) == (7, 0));
-        assert!(rt; said(&backwards(1025, 0)[0..16408]) == (7, 0));
+        assert!(rt; said(&backwards(1024, 0)[0..16392]) == None);
+        assert!(rt; said(&backwards(1024, 1)[0..16392]) == Some((11, 1)));
+        assert!(rt; said(&backwards(1024, 1024)[0..16392]) == Some((11, 1024)));
+        assert!(rt; said(&backwards(1024, 1025)[0..16392]) == Some((9, 1)));
+        assert!(rt; said(&backwards(1024, 0)[0..16393]) == Some((7, 0)));
+        assert!(rt; said(&backwards(1024, 0)[0..16391]) == Some((7, 0)));
+        assert!(rt; said(&backwards(1023, 0)[0..16392]) == Some((7, 0)));
+        assert!(rt; said(&backwards(1025, 0)[0..16408]) == Some((7, 0)));
     }
 
-    // The north-west count of a megacell's record; 0 where there is none.
-    fn count_of(log: &Log<'_>, row: u8, column: u8) -> u16 {
-        match Megacell::new(row, column) {
-            None => 0,
-            Some(megacell) => match log.record(megacell) {
-                None => 0,
-                Some(record) => record.count(Corner::NorthWest),
-            },
-        }
+    // The north-west count of a megacell's record.
+    fn count_of(log: &Log<'_>, row: u8, column: u8) -> Option<u16> {
+        let record = log.record(Megacell::new(row, column)?)?;
+        Some(record.count(Corner::NorthWest))
     }
 
     // the first record of the chain, one on the way, and the last
@@ -102,9 +95,9 @@ mod tests {
     fn along_the_chain(rt: HostRuntime) -> Result<(), Fail> {
         let bytes = backwards(1024, 0);
         let log = Log::read(&bytes[0..16392])?;
-        assert!(rt; count_of(&log, 31, 31) == 1024);
-        assert!(rt; count_of(&log, 16, 0) == 513);
-        assert!(rt; count_of(&log, 0, 0) == 1);
+        assert!(rt; count_of(&log, 31, 31) == Some(1024));
+        assert!(rt; count_of(&log, 16, 0) == Some(513));
+        assert!(rt; count_of(&log, 0, 0) == Some(1));
         Ok(())
     }
 

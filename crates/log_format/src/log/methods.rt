@@ -12,6 +12,7 @@ use log_record::record::{Record, record_at};
 
 impl<'a> Log<'a> {
     /// Reads a log: the bytes are followed along the chain once and stay lent. It ends on every input.
+    #[tactic(auto, unfolding(crate::specs::Log::refusal))]
     pub fn read(bytes: &'a [u8]) -> Result<Log<'a>, LogFault>
         ensures is { MatchResult result
             (λ log. (log.chain.bytes.now ≡ bytes.now) × (refusal bytes.now ≡ None))
@@ -24,6 +25,7 @@ impl<'a> Log<'a> {
     }
 
     /// The record of a megacell, if there is one.
+    #[tactic(auto, using(crate::proofs::Following::from_start))]
     pub fn record(&self, megacell: Megacell) -> Option<Record>
         ensures { result ≡ record_of self.now.chain.bytes.now megacell }
     {
@@ -31,6 +33,7 @@ impl<'a> Log<'a> {
     }
 
     /// The place to start at.
+    #[tactic(auto, using(log_record::proofs::Headers::header_tells))]
     pub fn start(&self) -> Place
         ensures { start_of self.now.chain.bytes.now ≡ Some result }
     {
