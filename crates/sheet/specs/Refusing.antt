@@ -35,5 +35,5 @@ sheet_fault room tour text = letter_or (first (no_letter tour) (length tour)) (s
 -- What laying a text out answers and leaves: where nothing is refused its length, with the text at the front of the
 -- buffer and the bytes behind it kept; else the refusal, with every byte kept.
 abbrev pub LaidOut : Option SheetFault → List ℕ → List ℕ → List ℕ → Result ℕ SheetFault → Type 0
-LaidOut fault text before after (Ok n) = (fault ≡ None) × (n ≡ length text) × (after ≡ written before 0 text)
+LaidOut fault text before after (Ok n) = (fault ≡ None) × (n ≡ length text) × (after ≡ written before text)
 LaidOut fault text before after (Err e) = (fault ≡ Some e) × (after ≡ before)

@@ -24,10 +24,6 @@ lined column (letter ∷ letters) = cond (column == 63) (letter ∷ (10 ∷ line
 abbrev pub letter_lines : List ℕ → List ℕ
 letter_lines letters = lined 0 letters
 
--- one line of letters
-abbrev pub letters_line : List ℕ → List ℕ
-letters_line letters = letters ++ (10 ∷ [])
-
 -- the first word of the last line
 abbrev pub ended : Bool → List ℕ
 ended true = codes "HOME"

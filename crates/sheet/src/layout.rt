@@ -1,86 +1,31 @@
-ghost use Rattle.std.specs.Prelude.{◌≡◌, ◌≤◌, length};
+ghost use Rattle.std.specs.Prelude.{◌≡◌, ◌≤◌, ◌++◌, length};
 ghost use Rattle.sheet.specs.Refusing.{sheet_fault, short_for, LaidOut};
-ghost use Rattle.sheet.specs.Sheets.{worded, start_line, letter_lines, last_line, sheet as sheet_of, refusal_line};
+ghost use Rattle.sheet.specs.Sheets.{worded, letter_lines, sheet as sheet_of, refusal_line};
 ghost use Rattle.sheet.specs.Writing.{Room, Put};
 
 use crate::faults::SheetFault;
 use crate::letters::{first_unlettered, letter_lines};
-use crate::lines::{last_line, start_line, worded_line};
-use crate::text::digits;
+use crate::lines::{Line, last_line, refusal_line, start_line};
 use board::place::Place;
 use fault::Fault;
 use sweep::sweep::Record;
 
-/// How many bytes a line of a word and numbers takes.
-fn worded_length(word: &[u8], numbers: &[usize]) -> usize
-    requires { (length word.now ≤ 16) × (length numbers.now ≤ 3) }
-    ensures is { result ≡ length (worded word.now numbers.now) }
-    ensures few { result ≤ 100 }
-{
-    let mut total = word.len();
-    for number in numbers {
-        total += 1 + digits(*number);
-    }
-    total + 1
-}
-
-/// How many bytes the first line takes.
-fn start_length(start: Place) -> usize
-    ensures is { result ≡ length (start_line start) }
-    ensures few { result ≤ 100 }
-{
-    worded_length(b"START", &[start.row() as usize, start.column() as usize])
-}
-
-/// How many bytes the last line takes.
-fn last_length(ending: Record) -> usize
-    ensures is { result ≡ length (last_line ending) }
-    ensures few { result ≤ 100 }
-{
-    let numbers = [
-        ending.moves as usize,
-        ending.looks as usize,
-        ending.megacells as usize,
-    ];
-    if ending.home {
-        worded_length(b"HOME", &numbers)
-    } else {
-        worded_length(b"STOPPED", &numbers)
-    }
-}
-
 /// How many bytes a sheet takes: an LF for each 64 letters begun.
-fn sheet_length(start: Place, tour: &[u8], ending: Record) -> usize
-    ensures { result ≡ length (sheet_of start tour.now ending) }
+fn sheet_length(start: &Line<2>, tour: &[u8], ending: &Line<3>) -> usize
+    ensures { result ≡ length (worded start.now.word.now start.now.numbers ++ letter_lines tour.now ++ worded ending.now.word.now ending.now.numbers) }
 {
-    let letters = tour.len() + (tour.len() + 63) / 64;
-    start_length(start) + letters + last_length(ending)
-}
-
-/// The letters of a tour from an offset on, in the part of the sheet that begins there: where they end.
-fn put_letters(sheet: &mut [u8], at: usize, tour: &[u8]) -> usize
-    requires { Room sheet.old at (letter_lines tour.now) }
-    ensures { Put sheet.old at (letter_lines tour.now) sheet.new result }
-{
-    at + letter_lines(&mut sheet[at..], tour)
-}
-
-/// The last line from an offset on, in the part of the sheet that begins there: where it ends.
-fn put_last(sheet: &mut [u8], at: usize, ending: Record) -> usize
-    requires { Room sheet.old at (last_line ending) }
-    ensures { Put sheet.old at (last_line ending) sheet.new result }
-{
-    at + last_line(&mut sheet[at..], ending)
+    let letters = tour.len() + tour.len().div_ceil(64);
+    start.length() + letters + ending.length()
 }
 
 /// Writes a sheet that has room, line after line: its length.
-fn put_sheet(sheet: &mut [u8], start: Place, tour: &[u8], ending: Record) -> usize
-    requires { Room sheet.old 0 (sheet_of start tour.now ending) }
-    ensures { Put sheet.old 0 (sheet_of start tour.now ending) sheet.new result }
+fn put_sheet(sheet: &mut [u8], start: &Line<2>, tour: &[u8], ending: &Line<3>) -> usize
+    requires { Room sheet.old (worded start.now.word.now start.now.numbers ++ letter_lines tour.now ++ worded ending.now.word.now ending.now.numbers) }
+    ensures { Put sheet.old (worded start.now.word.now start.now.numbers ++ letter_lines tour.now ++ worded ending.now.word.now ending.now.numbers) sheet.new result }
 {
-    let first = start_line(sheet, start);
-    let second = put_letters(sheet, first, tour);
-    put_last(sheet, second, ending)
+    let first = start.put(sheet);
+    let second = first + letter_lines(&mut sheet[first..], tour);
+    second + ending.put(&mut sheet[second..])
 }
 
 /// Lays out the sheet of a tour: the start, the letters, and how the sweep ended. It answers the sheet's length.
@@ -100,11 +45,13 @@ pub fn lay_out(
     if let Some(offset) = first_unlettered(tour) {
         return Err(SheetFault::NoLetter { offset });
     }
-    let needed = sheet_length(start, tour, ending);
+    let first = start_line(start);
+    let last = last_line(ending);
+    let needed = sheet_length(&first, tour, &last);
     if sheet.len() < needed {
         return Err(SheetFault::Short { needed });
     }
-    Ok(put_sheet(sheet, start, tour, ending))
+    Ok(put_sheet(sheet, &first, tour, &last))
 }
 
 /// Lays out the line that tells a refusal: the word REFUSED, number and place. It answers the line's length.
@@ -114,10 +61,10 @@ pub fn lay_out_refusal<F: Fault>(line: &mut [u8], fault: &F) -> Result<usize, Sh
         (refusal_line (F.Fault.tells fault.now).number (F.Fault.tells fault.now).place)
         line.old line.new result }
 {
-    let numbers = [fault.number() as usize, fault.place()];
-    let length = worded_length(b"REFUSED", &numbers);
+    let refusal = refusal_line(fault);
+    let length = refusal.length();
     if line.len() < length {
         return Err(SheetFault::Short { needed: length });
     }
-    Ok(worded_line(line, b"REFUSED", &numbers))
+    Ok(refusal.put(line))
 }

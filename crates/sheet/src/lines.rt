@@ -1,55 +1,81 @@
-ghost use Rattle.sheet.specs.Sheets.{worded, start_line, last_line, letters_line};
+ghost use Rattle.std.specs.Prelude.{◌≡◌, ◌≤◌, length};
+ghost use Rattle.sheet.specs.Sheets.{worded, start_line, last_line, refusal_line};
 ghost use Rattle.sheet.specs.Writing.{Room, Put};
 
-use super::text::{put_byte, put_spaced, put_text};
+use super::text::{digits, put_byte, put_spaced, put_text};
 use board::place::Place;
+use fault::Fault;
 use sweep::sweep::Record;
 
-/// A line of a word and numbers, at the front of the part lent: its length.
-pub(crate) fn worded_line(out: &mut [u8], word: &[u8], numbers: &[usize]) -> usize
-    requires { Room out.old 0 (worded word.now numbers.now) }
-    ensures { Put out.old 0 (worded word.now numbers.now) out.new result }
-{
-    let mut at = put_text(out, 0, word);
-    for number in numbers {
-        at = put_spaced(out, at, *number);
+/// A line of a word and numbers, each number after a space.
+#[derive(Clone, Copy)]
+pub(crate) struct Line<'a, const N: usize> {
+    word: &'a [u8],
+    numbers: [usize; N],
+
+    // A word is no longer than a line of letters, and at most three numbers follow it.
+    ghost short: { length word.now ≤ 64 },
+    ghost few: { N ≤ 3 },
+}
+
+impl<'a, const N: usize> Line<'a, N> {
+    /// A line of this word and these numbers.
+    pub(crate) fn new(word: &'a [u8], numbers: [usize; N]) -> Self
+        requires short { length word.now ≤ 64 }
+        requires few { N ≤ 3 }
+        ensures { worded result.word.now result.numbers ≡ worded word.now numbers.entry }
+    {
+        Line { word, numbers }
     }
-    put_byte(out, at, b'\n')
+
+    /// How many bytes the line takes.
+    pub(crate) fn length(&self) -> usize
+        ensures is { result ≡ length (worded self.now.word.now self.now.numbers) }
+        ensures few { result ≤ 128 }
+    {
+        let mut total = self.word.len();
+        for number in &self.numbers {
+            total += 1 + digits(*number);
+        }
+        total + 1
+    }
+
+    /// Writes the line at the front of the part lent: its length.
+    pub(crate) fn put(&self, out: &mut [u8]) -> usize
+        requires { Room out.old (worded self.now.word.now self.now.numbers) }
+        ensures { Put out.old (worded self.now.word.now self.now.numbers) out.new result }
+    {
+        let mut at = put_text(out, self.word);
+        for number in &self.numbers {
+            at += put_spaced(&mut out[at..], *number);
+        }
+        at + put_byte(&mut out[at..], b'\n')
+    }
 }
 
-/// A line of letters, at the front of the part lent: its length.
-pub(crate) fn letters_line(out: &mut [u8], letters: &[u8]) -> usize
-    requires { Room out.old 0 (letters_line letters.now) }
-    ensures { Put out.old 0 (letters_line letters.now) out.new result }
+/// The first line of a sheet.
+pub(crate) fn start_line(start: Place) -> Line<'static, 2>
+    ensures { worded result.word.now result.numbers ≡ start_line start }
 {
-    worded_line(out, letters, &[])
+    Line::new(b"START", [start.row() as usize, start.column() as usize])
 }
 
-/// The first line of a sheet, at the front of the part lent: its length.
-pub(crate) fn start_line(out: &mut [u8], start: Place) -> usize
-    requires { Room out.old 0 (start_line start) }
-    ensures { Put out.old 0 (start_line start) out.new result }
+/// The last line of a sheet.
+pub(crate) fn last_line(ending: Record) -> Line<'static, 3>
+    ensures { worded result.word.now result.numbers ≡ last_line ending }
 {
-    worded_line(
-        out,
-        b"START",
-        &[start.row() as usize, start.column() as usize],
-    )
-}
-
-/// The last line of a sheet, at the front of the part lent: its length.
-pub(crate) fn last_line(out: &mut [u8], ending: Record) -> usize
-    requires { Room out.old 0 (last_line ending) }
-    ensures { Put out.old 0 (last_line ending) out.new result }
-{
+    let word: &[u8] = if ending.home { b"HOME" } else { b"STOPPED" };
     let numbers = [
         ending.moves as usize,
         ending.looks as usize,
         ending.megacells as usize,
     ];
-    if ending.home {
-        worded_line(out, b"HOME", &numbers)
-    } else {
-        worded_line(out, b"STOPPED", &numbers)
-    }
+    Line::new(word, numbers)
+}
+
+/// The line that tells a refusal.
+pub(crate) fn refusal_line<F: Fault>(fault: &F) -> Line<'static, 2>
+    ensures { worded result.word.now result.numbers ≡ refusal_line (F.Fault.tells fault.now).number (F.Fault.tells fault.now).place }
+{
+    Line::new(b"REFUSED", [fault.number() as usize, fault.place()])
 }

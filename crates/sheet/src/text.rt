@@ -1,62 +1,54 @@
-ghost use Rattle.std.specs.Prelude.{◌≡◌, ◌+◌, ◌≤◌, [], ◌∷◌, length, decimal};
+ghost use Rattle.std.specs.Prelude.{◌≡◌, ◌≤◌, [], ◌∷◌, length, decimal};
 ghost use Rattle.sheet.specs.Sheets.{spaced};
 ghost use Rattle.sheet.specs.Writing.{written, Room, Put};
 
-/// A text at the front of a buffer: its length.
-fn put_front(out: &mut [u8], text: &[u8]) -> usize
-    requires { length text.now ≤ length out.old }
-    ensures { Put out.old 0 text.now out.new result }
+/// A text at the front of the part lent: its length.
+pub(crate) fn put_text(out: &mut [u8], text: &[u8]) -> usize
+    requires { Room out.old text.now }
+    ensures { Put out.old text.now out.new result }
 {
     let length = text.len();
-    out[0..length].copy_from_slice(text);
+    out[..length].copy_from_slice(text);
     length
 }
 
-/// A text from an offset on: where it ends.
-pub(crate) fn put_text(out: &mut [u8], at: usize, text: &[u8]) -> usize
-    requires { Room out.old at text.now }
-    ensures { Put out.old at text.now out.new result }
+/// One byte at the front of the part lent: its length, 1.
+pub(crate) fn put_byte(out: &mut [u8], byte: u8) -> usize
+    requires { Room out.old (byte ∷ []) }
+    ensures { Put out.old (byte ∷ []) out.new result }
 {
-    at + put_front(&mut out[at..], text)
-}
-
-/// One byte at an offset: the offset after it.
-pub(crate) fn put_byte(out: &mut [u8], at: usize, byte: u8) -> usize
-    requires { Room out.old at (byte ∷ []) }
-    ensures { Put out.old at (byte ∷ []) out.new result }
-{
-    out[at] = byte;
-    at + 1
+    put_text(out, &[byte])
 }
 
 /// How many decimal digits a number has.
 pub(crate) fn digits(number: usize) -> usize
-    ensures { result ≡ length (decimal number) }
+    ensures is { result ≡ length (decimal number) }
+    ensures few { result ≤ 20 }
 {
-    if number < 10 {
-        1
-    } else {
-        digits(number / 10) + 1
+    match number.checked_ilog10() {
+        Some(log) => log as usize + 1,
+        None => 1,
     }
 }
 
-/// A number in decimal digits, without leading zeros, from an offset on: where it ends.
-pub(crate) fn put_number(out: &mut [u8], at: usize, number: usize) -> usize
-    requires { Room out.old at (decimal number) }
-    ensures { Put out.old at (decimal number) out.new result }
+/// A number in decimal digits, without leading zeros, at the front of the part lent: its length.
+pub(crate) fn put_number(out: &mut [u8], number: usize) -> usize
+    requires { Room out.old (decimal number) }
+    ensures { Put out.old (decimal number) out.new result }
 {
+    // `write!` into a slice would answer a want of room, which cannot come here.
     if number < 10 {
-        return put_byte(out, at, b'0' + number as u8);
+        return put_byte(out, b'0' + number as u8);
     }
-    let last = put_number(out, at, number / 10);
-    put_byte(out, last, b'0' + (number % 10) as u8)
+    let at = put_number(out, number / 10);
+    at + put_byte(&mut out[at..], b'0' + (number % 10) as u8)
 }
 
-/// A space and a number from an offset on: where the number ends.
-pub(crate) fn put_spaced(out: &mut [u8], at: usize, number: usize) -> usize
-    requires { Room out.old at (spaced number) }
-    ensures { Put out.old at (spaced number) out.new result }
+/// A space and a number at the front of the part lent: their length.
+pub(crate) fn put_spaced(out: &mut [u8], number: usize) -> usize
+    requires { Room out.old (spaced number) }
+    ensures { Put out.old (spaced number) out.new result }
 {
-    let next = put_byte(out, at, b' ');
-    put_number(out, next, number)
+    let at = put_byte(out, b' ');
+    at + put_number(&mut out[at..], number)
 }

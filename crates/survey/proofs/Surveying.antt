@@ -59,16 +59,13 @@ short_some room text e h = go (ltb room (length text)) refl h
   where
     go : (b : Bool) → ltb room (length text) ≡ b → cond b (Some (Short (length text))) None ≡ Some e → (room < length text) × (e ≡ Short (length text))
     go true q k = (ltb-true _ _ q, cc)
-    go false q k = (absurd (none_is k), cc)
-      where
-        none_is : None ≡ Some e → ⊥
-        none_is w = let z : ◌≡◌ {A = ℕ} 0 1 = cc in omega arith
+    go false q k = absurd cc
 
 pub short_none : (room : ℕ) (text : List ℕ) → short_for room text ≡ None → length text ≤ room
 short_none room text h = go (ltb room (length text)) refl h
   where
     go : (b : Bool) → ltb room (length text) ≡ b → cond b (Some (Short (length text))) None ≡ None → length text ≤ room
-    go true q k = let z : ◌≡◌ {A = ℕ} 0 1 = cc in absurd (omega arith)
+    go true q k = absurd cc
     go false q k = ltb-false _ _ q
 
 -- a run over a chart that was emptied before
@@ -95,10 +92,10 @@ module _ (floor : Floor) (s start : Place) (n : ℕ) (part : List ℕ) (ending :
   pub sheet_refused : (e : SheetFault) → start ≡ s → part ≡ letters (tour floor s n) → ending ≡ record_after floor s n → sheet_fault (length text) part (sheet start part ending) ≡ Some e → (length text < length (sheet_after floor s n)) × (e ≡ Short (length (sheet_after floor s n)))
   sheet_refused e a b c h = short_some (length text) (sheet_after floor s n) e (sym (same_fault a b c) ∙ h)
 
-  pub sheet_laid : (k : ℕ) → start ≡ s → part ≡ letters (tour floor s n) → ending ≡ record_after floor s n → sheet_fault (length text) part (sheet start part ending) ≡ None → k ≡ length (sheet start part ending) → text_after ≡ written text 0 (sheet start part ending) →
-      (length (sheet_after floor s n) ≤ length text) × (k ≡ length (sheet_after floor s n)) × (text_after ≡ written text 0 (sheet_after floor s n))
+  pub sheet_laid : (k : ℕ) → start ≡ s → part ≡ letters (tour floor s n) → ending ≡ record_after floor s n → sheet_fault (length text) part (sheet start part ending) ≡ None → k ≡ length (sheet start part ending) → text_after ≡ written text (sheet start part ending) →
+      (length (sheet_after floor s n) ≤ length text) × (k ≡ length (sheet_after floor s n)) × (text_after ≡ written text (sheet_after floor s n))
   sheet_laid k a b c h l w = (
     short_none (length text) (sheet_after floor s n) (sym (same_fault a b c) ∙ h),
     l ∙ ap length (same_sheet a b c),
-    w ∙ ap (written text 0) (same_sheet a b c),
+    w ∙ ap (written text) (same_sheet a b c),
   )

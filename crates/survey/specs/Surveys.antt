@@ -43,7 +43,7 @@ Surveys floor field s before after (Ok length') =
     × Driven floor field s (moves_in floor s (length before.bytes)) before.slots before.bytes after.slots after.bytes
     × (length (sheet_after floor s (moves_in floor s (length before.bytes))) ≤ length before.text)
     × (length' ≡ length (sheet_after floor s (moves_in floor s (length before.bytes))))
-    × (after.text ≡ written before.text 0 (sheet_after floor s (moves_in floor s (length before.bytes))))
+    × (after.text ≡ written before.text (sheet_after floor s (moves_in floor s (length before.bytes))))
 Surveys floor field s before after (Err (Chart e)) = TooFew (length before.slots) e × (after ≡ before)
 Surveys floor field s before after (Err (Sheet e)) =
     (4096 ≤ length before.slots)

@@ -2,30 +2,12 @@
 //! that tells its refusal.
 #![tactic(auto)]
 
-use std::io::Read;
 use survey::log::survey_log;
-use survey_program::{SHEET, TOUR, chart_of, show};
+use survey_program::run;
 
 /// The bytes of the longest log, and one more, by which a longer one is told.
 const MOST: u64 = 16393;
 
-fn run(rt: &HostRuntime) -> anyhow::Result<()> {
-    let heap = rt.alloc();
-    let mut log = Vec::new(heap);
-    rt.stdin().take(MOST).read_to_end(&mut log)?;
-    let mut chart = chart_of(heap)?;
-    let mut tour = vec![in heap; 0u8; TOUR]?;
-    let mut sheet = vec![in heap; 0u8; SHEET]?;
-    let answer = survey_log(
-        log.as_slice(),
-        0,
-        chart.as_mut_slice(),
-        tour.as_mut_slice(),
-        sheet.as_mut_slice(),
-    );
-    show(rt, answer, sheet.as_mut_slice())
-}
-
 fn main(rt: HostRuntime) -> anyhow::Result<()> {
-    run(&rt)
+    run(&rt, MOST, survey_log)
 }

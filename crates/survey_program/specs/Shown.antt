@@ -11,4 +11,4 @@ line_of e = refusal_line (told e).number (told e).place
 -- a sheet stays; a refusal's line stands at the front, if there is room
 abbrev pub Shown : Result ℕ SurveyFault → List ℕ → List ℕ → Type 0
 Shown (Ok n) before after = after ≡ before
-Shown (Err e) before after = (length (line_of e) ≤ length before → after ≡ written before 0 (line_of e)) × (length before < length (line_of e) → after ≡ before)
+Shown (Err e) before after = (length (line_of e) ≤ length before → after ≡ written before (line_of e)) × (length before < length (line_of e) → after ≡ before)

@@ -1,4 +1,4 @@
-//! What the survey programs share: their buffers, and how they write what a survey answered.
+//! What the survey programs share: their run, their buffers, and how they write what a survey answered.
 #![tactic(auto)]
 
 ghost use Rattle.std.specs.Prelude.{◌≡◌, replicate, IfOk, None};
@@ -7,7 +7,7 @@ ghost use Rattle.survey_program.specs.Shown.{Shown};
 use chart::slot::Slot;
 use sheet::layout::lay_out_refusal;
 use std::alloc::{AllocError, Global};
-use std::io::Write;
+use std::io::{Read, Write};
 use survey::faults::SurveyFault;
 
 /// The bytes of a tour: the longest has four moves for each of the 1,024 megacells.
@@ -21,9 +21,7 @@ pub fn chart_of<T: Drop>(heap: Global) -> Result<Vec<Slot<T>>, AllocError>
     ensures { IfOk result (λ v. v.items ≡ replicate 4096 None) }
 {
     let mut chart = Vec::new(heap);
-    for _i in 0..4096usize {
-        chart.push(None)?;
-    }
+    chart.resize_with(4096, || None)?;
     Ok(chart)
 }
 
@@ -43,4 +41,32 @@ pub fn show(
     let end = length.min(sheet.len());
     rt.stdout().write_all(&sheet[0..end])?;
     Ok(())
+}
+
+/// Surveys what standard input holds, up to `most` bytes, as it stands there (frame 0), and writes the sheet, or the
+/// line that tells the refusal. Want of memory is an error, and so is a failed read or write.
+pub fn run<
+    T: Drop,
+    F: FnOnce(&[u8], u8, &mut [Slot<T>], &mut [u8], &mut [u8]) -> Result<usize, SurveyFault>,
+>(
+    rt: &HostRuntime,
+    most: u64,
+    survey: F,
+) -> anyhow::Result<()>
+    requires { (input : _) (chart : _) (tour : _) (sheet : _) → F.pre survey input 0 chart tour sheet }
+{
+    let heap = rt.alloc();
+    let mut input = Vec::new(heap);
+    rt.stdin().take(most).read_to_end(&mut input)?;
+    let mut chart = chart_of(heap)?;
+    let mut tour = vec![in heap; 0u8; TOUR]?;
+    let mut sheet = vec![in heap; 0u8; SHEET]?;
+    let answer = survey(
+        input.as_slice(),
+        0,
+        chart.as_mut_slice(),
+        tour.as_mut_slice(),
+        sheet.as_mut_slice(),
+    );
+    show(rt, answer, sheet.as_mut_slice())
 }

@@ -19,29 +19,14 @@ mod tests {
     // a chart of so many empty slots
     fn slots(heap: Global, count: usize) -> Result<Vec<Slot<Light>>, Fail> {
         let mut chart = Vec::new(heap);
-        for _ in 0..count {
-            chart.push(None)?;
-        }
+        chart.resize_with(count, || None)?;
         Ok(chart)
     }
 
-    fn refused(
-        rt: &impl Abort,
-        answer: Result<usize, SurveyFault>,
-        number: u8,
-        place: usize,
-    ) -> Result<(), Fail> {
-        match answer {
-            Ok(_) => {
-                assert!(rt; false);
-                Ok(())
-            },
-            Err(fault) => {
-                assert_eq!(rt; fault.number(), number);
-                assert_eq!(rt; fault.place(), place);
-                Ok(())
-            }
-        }
+    fn refused(rt: &impl Abort, answer: Result<usize, SurveyFault>, number: u8, place: usize) {
+        let fault = answer.expect_err(rt, "a refusal");
+        assert_eq!(rt; fault.number(), number);
+        assert_eq!(rt; fault.place(), place);
     }
 
     // 4,095 slots are refused with 13, 4,096 are a chart
@@ -55,19 +40,12 @@ mod tests {
             survey_map(b"S\n", 0, short.as_mut_slice(), &mut tour, &mut sheet),
             13,
             4095,
-        )?;
+        );
         assert!(rt; sheet == [0u8; 64]);
         let mut chart = slots(rt.alloc(), 4096)?;
-        match survey_map(b"S\n", 0, chart.as_mut_slice(), &mut tour, &mut sheet) {
-            Ok(length) => {
-                assert_eq!(rt; length, 26);
-                Ok(())
-            },
-            Err(_) => {
-                assert!(rt; false);
-                Ok(())
-            },
-        }
+        let length = survey_map(b"S\n", 0, chart.as_mut_slice(), &mut tour, &mut sheet)?;
+        assert_eq!(rt; length, 26);
+        Ok(())
     }
 
     // the mirrored single megacell; frame 8 is none, and is refused before the map
@@ -76,16 +54,15 @@ mod tests {
         let mut tour = [0u8; 16];
         let mut sheet = [0u8; 64];
         let mut chart = slots(rt.alloc(), 4096)?;
-        match survey_map(b"S\n", 4, chart.as_mut_slice(), &mut tour, &mut sheet) {
-            Ok(_) => assert!(rt; sheet.starts_with(b"START 1 62\nENWS\nHOME 4 2 1\n")),
-            Err(_) => assert!(rt; false),
-        }
+        survey_map(b"S\n", 4, chart.as_mut_slice(), &mut tour, &mut sheet)?;
+        assert!(rt; sheet.starts_with(b"START 1 62\nENWS\nHOME 4 2 1\n"));
         refused(
             &rt,
             survey_map(b"", 8, chart.as_mut_slice(), &mut tour, &mut sheet),
             1,
             0,
-        )
+        );
+        Ok(())
     }
 
     // a sheet of 25 bytes has no room for 26, and the tour is driven all the same
@@ -99,7 +76,7 @@ mod tests {
             survey_map(b"S\n", 0, chart.as_mut_slice(), &mut tour, &mut sheet),
             17,
             26,
-        )?;
+        );
         assert!(rt; sheet == [b'-'; 25]);
         assert!(rt; tour == *b"NWSE-");
         Ok(())
@@ -111,21 +88,14 @@ mod tests {
         let mut tour = [0u8; 3];
         let mut sheet = [0u8; 64];
         let mut chart = slots(rt.alloc(), 4096)?;
-        match survey_map(b"S.\n", 0, chart.as_mut_slice(), &mut tour, &mut sheet) {
-            Ok(_) => {
-                assert!(rt; sheet.starts_with(b"START 1 1\nEEN\nSTOPPED 3 3 2\n"));
-                Ok(())
-            },
-            Err(_) => {
-                assert!(rt; false);
-                Ok(())
-            },
-        }
+        survey_map(b"S.\n", 0, chart.as_mut_slice(), &mut tour, &mut sheet)?;
+        assert!(rt; sheet.starts_with(b"START 1 1\nEEN\nSTOPPED 3 3 2\n"));
+        Ok(())
     }
 
     // a log is checked before the chart
     #[test]
-    fn log_before_chart(rt: HostRuntime) -> Result<(), Fail> {
+    fn log_before_chart(rt: HostRuntime) {
         let mut tour = [0u8; 3];
         let mut sheet = [0u8; 64];
         let mut chart = [None, Some(7u16)];
@@ -134,7 +104,7 @@ mod tests {
             survey_log(&[0u8; 8], 0, &mut chart, &mut tour, &mut sheet),
             12,
             0,
-        )
+        );
     }
 
     // 65 letters take two lines; a byte that is no letter is refused with its offset; and a refusal's line
@@ -147,10 +117,7 @@ mod tests {
             megacells: 1024,
             home: false,
         };
-        let Some(start) = Place::new(63, 0) else {
-            assert!(rt; false);
-            return Ok(());
-        };
+        let start = Place::new(63, 0).expect(&rt, "a place");
         assert_eq!(rt;
             lay_out(&mut sheet, start, &[b'N'; 65], ending)?,
             11 + 67 + 19
@@ -158,15 +125,11 @@ mod tests {
         assert!(rt;
             sheet[74] == b'N' && sheet[75] == b'\n' && sheet[76] == b'N' && sheet[77] == b'\n'
         );
-        match lay_out(&mut sheet, start, b"NEx", ending) {
-            Ok(_) => assert!(rt; false),
-            Err(fault) => {
-                assert_eq!(rt; fault.number(), 16);
-                assert_eq!(rt; fault.place(), 2);
-                assert_eq!(rt; lay_out_refusal(&mut sheet, &fault)?, 13);
-                assert!(rt; sheet.starts_with(b"REFUSED 16 2\n"));
-            }
-        }
+        let fault = lay_out(&mut sheet, start, b"NEx", ending).expect_err(&rt, "a refusal");
+        assert_eq!(rt; fault.number(), 16);
+        assert_eq!(rt; fault.place(), 2);
+        assert_eq!(rt; lay_out_refusal(&mut sheet, &fault)?, 13);
+        assert!(rt; sheet.starts_with(b"REFUSED 16 2\n"));
         Ok(())
     }
 }

@@ -1,12 +1,13 @@
-use Rattle.std.proofs.Common.{not, sym, ap, arith}
-use Rattle.firsts.proofs.Firsts.{first_zero, first_more, first_here}
+use Rattle.std.proofs.Common.{◌≡◌, not, rules, tests}
+use Rattle.std.specs.List.{position}
+use Rattle.std.proofs.lemmas.Iterator.{YieldsList-from_slice}
+use Rattle.std.proofs.lemmas.Iterator.Search.{position_from_yields_List}
+use Rattle.sheet.specs.Refusing.{is_letter}
+use Rattle.sheet.proofs.Lettering.{first_told}
 use Rattle.sheet.proofs.letters.first_unlettered.Goals as goal
 
-pub loop-i-init : goal.loop-i-init
-loop-i-init c = first_zero _
-
-pub returns-then-not-is_letter : goal.returns-then-not-is_letter
-returns-then-not-is_letter c = sym (first_here _ c.loop-i.i _ c.loop-i.invariant (ap not (sym c.if-not-is_letter.ensures)) (omega arith))
-
-pub loop-i-preserved : goal.loop-i-preserved
-loop-i-preserved c = first_more _ c.loop-i.i c.loop-i.invariant (ap not (sym c.if-not-is_letter.ensures))
+pub returns : goal.returns
+returns c =
+    let found : c.position.result ≡ position (λ b. not (is_letter b)) c.args.tour.now =
+    position_from_yields_List (λ b. not (is_letter b)) _ _ c.position.result c.position.ensures.ran (YieldsList-from_slice c.args.tour.now cc) (λ x b q k. search (rules, tests)) in
+    first_told c.args.tour.now _ (search (rules, found))
