@@ -27,10 +27,14 @@ pub(crate) fn drive<R: Rover + Drop>(
     ensures driven { Driven (R.Rover.floor rover) (R.Rover.field rover) (R.Rover.place rover) (moves_in (R.Rover.floor rover) (R.Rover.place rover) (length tour.old)) chart.old tour.old chart.new tour.new }
 {
     let mut sweep = Sweep::start(rover);
-    let letters = match sweep.run(chart, tour) {
-        Ok(ran) => ran.letters,
+    // by cases: with `unwrap` the proof did not close
+    let ran = match sweep.run(chart, tour) {
+        Ok(ran) => ran,
         Err(_) => unreachable(),
     };
     let (_rover, ending) = sweep.end();
-    Run { letters, ending }
+    Run {
+        letters: ran.letters,
+        ending,
+    }
 }

@@ -5,11 +5,10 @@ ghost use Rattle.survey.specs.Surveys.{lent};
 use crate::any_rover::survey_rover;
 use crate::faults::SurveyFault;
 use chart::slot::Slot;
-use frame::numbered::numbered;
+use frame::numbered::Numbered;
 use framed::Framed;
-use log_floor::log_rover::LogRover;
+use log_floor::floor::{LogFloor, LogRover};
 use log_format::log::Log;
-use rover::meaning::Rover;
 
 /// Surveys the floor that a log tells of, seen through the frame of a number. It answers the sheet's length.
 ///
@@ -23,11 +22,8 @@ pub fn survey_log(
 ) -> Result<usize, SurveyFault>
     ensures { SurveysLog bytes.now frame (lent chart.old tour.old sheet.old) (lent chart.new tour.new sheet.new) result }
 {
-    let seen = numbered(frame)?;
+    let frame = Numbered::try_from(frame)?;
     let log = Log::read(bytes)?;
-    let rover = Framed {
-        below: LogRover::new(log),
-        frame: seen,
-    };
-    survey_rover(rover, chart, tour, sheet)
+    let below = LogRover::new(LogFloor { log });
+    survey_rover(Framed { below, frame }, chart, tour, sheet)
 }

@@ -5,12 +5,11 @@ ghost use Rattle.survey.specs.Surveys.{lent};
 use crate::any_rover::survey_rover;
 use crate::faults::SurveyFault;
 use chart::slot::Slot;
-use drawn_floor::drawn_rover::DrawnRover;
+use drawn_floor::floor::{DrawnFloor, DrawnRover};
 use drawn_floor::light::Light;
-use frame::numbered::numbered;
+use frame::numbered::Numbered;
 use framed::Framed;
 use map_format::drawing::Drawing;
-use rover::meaning::Rover;
 
 /// Surveys the floor that a map draws, seen through the frame of a number. It answers the sheet's length.
 ///
@@ -24,11 +23,8 @@ pub fn survey_map(
 ) -> Result<usize, SurveyFault>
     ensures { SurveysMap map.now frame (lent chart.old tour.old sheet.old) (lent chart.new tour.new sheet.new) result }
 {
-    let seen = numbered(frame)?;
+    let frame = Numbered::try_from(frame)?;
     let drawing = Drawing::read(map)?;
-    let rover = Framed {
-        below: DrawnRover::new(drawing),
-        frame: seen,
-    };
-    survey_rover(rover, chart, tour, sheet)
+    let below = DrawnRover::new(DrawnFloor { drawing });
+    survey_rover(Framed { below, frame }, chart, tour, sheet)
 }
