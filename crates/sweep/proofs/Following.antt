@@ -107,10 +107,10 @@ unfolding next_move
 decided_by_the_rules floor s ps marks t = decided_by_the_rules_at s ps marks (megacell_of (here s ps)) (exit (here s ps)) (floor (megacell_of (here s ps)) (exit (here s ps))) (beside (megacell_of (here s ps)) (exit (here s ps))) refl (here_is_old s ps) t
 
 -- What a choice says of the megacell ahead.
-looked_at_is_marked_new : (k : Mark) (x y : Megacell) → look_if_new k x ≡ Look y → k ≡ New
-looked_at_is_marked_new New x y e = refl
-looked_at_is_marked_new Root x y e = cc
-looked_at_is_marked_new (Under h) x y e = cc
+only_new_is_looked_at : (s : Place) (ps : List Place) (k : Mark) (x y : Megacell) → look_if_new k x ≡ Look y → Says s ps x k → old s ps y ≡ false
+only_new_is_looked_at s ps New x y e w = let is : x ≡ y = cc in rw (← is) w
+only_new_is_looked_at s ps Root x y e w = cc
+only_new_is_looked_at s ps (Under h) x y e w = cc
 
 no_cross_but_to_the_parent : (k : Mark) (x : Megacell) → look_if_new k x ≡ Cross → ⊥
 no_cross_but_to_the_parent New x e = cc
@@ -136,10 +136,7 @@ looked_at_is_new s ps marks x e (Some z) y i j t = go (leads (mark_at marks x) e
   where
     go : (c : Bool) → cond c Cross (look_if_new (mark_at marks z) z) ≡ Look y → old s ps y ≡ false
     go true k = cc
-    go false k =
-        let is : z ≡ y = cc in
-        let w : Says s ps z New = subst (λ (v : Mark). Says s ps z v) (looked_at_is_marked_new (mark_at marks z) z y k) (t z) in
-        ap (old s ps) (sym is) ∙ w
+    go false k = only_new_is_looked_at s ps (mark_at marks z) z y k (t z)
 
 -- What a move leaves: the table at the longer history, and how many megacells are old.
 abbrev pub After : Place → List Place → List Mark → Heading → Place → Option Megacell → Type 0

@@ -24,7 +24,7 @@ use Rattle.sweep.specs.declared.faults.SweepFault.{SweepFault}
 use Rattle.sweep.specs.declared.faults.SweepFault.TheVariants.{Home}
 use Rattle.sweep.specs.declared.sweep.Moved.{Moved}
 use Rattle.sweep.specs.declared.sweep.Sweep.{Sweep}
-use Rattle.sweep.specs.Table.{choice, decided, found, is_found}
+use Rattle.sweep.specs.Table.{choice, decided, is_found}
 use Rattle.sweep.specs.Promise.{Promise, NextMove}
 use Rattle.sweep.specs.Journey.{counted_by, Journey, Charts}
 use Rattle.sweep.specs.Single.{counted_if, Steps, Still, Barred, ByTable, decided_for, found_for, Begun}
@@ -121,9 +121,6 @@ promise_from_workings floor s asked place n looked olds is_home law stands looks
 pub one_move_more : {R A : Type 0} {G : Ghosts R A} {sweep after : Sweep R A} {slots slots_after : List (Slot A)} {h : Heading} {q : Place} → Steps G sweep slots after slots_after h q → sweep.moves ≤ 4096 → after.moves ≡ sweep.moves + 1
 one_move_more {sweep = sweep} m few = m.moves ∙ counted_plain sweep.moves (omega arith)
 
-underway_at : (floor : Floor) (s : Place) (m n : ℕ) → m ≡ n → Underway floor s n → Underway floor s m
-underway_at floor s m n e far k h = far k (omega arith)
-
 -- One move by the table.
 module _ {R A : Type 0} (G : Ghosts R A) (origin : R) (law : Lawful (G.floor origin)) (asked : ℕ) (sweep : Sweep R A) (st : Journey G origin asked sweep) where
   -- the table decides for the move that the rules ask for
@@ -186,16 +183,7 @@ module _ {R A : Type 0} (G : Ghosts R A) (origin : R) (law : Lawful (G.floor ori
     enters_after = ap (λ (k : ℕ). visited (G.floor origin) (G.place origin) k) one_more ∙ next_enters
 
     left_after : After (G.place origin) (visited (G.floor origin) (G.place origin) sweep.moves) sweep.marks.table (exit (G.place sweep.rover)) q (found_for G sweep)
-    left_after =
-        let f = G.floor origin in
-        let z = G.place origin in
-        let qs = visited f z sweep.moves in
-        let p = here z qs in
-        let a0 = move_leaves z qs sweep.marks.table (choice sweep.marks.table p) (f (megacell_of p) (exit p)) refl sweep.marks.size st.workings.tells in
-        let F : Place → Floor → Type 0 = λ x fl. After z qs sweep.marks.table (exit x) (step (decided (choice sweep.marks.table x) (exit x) (fl (megacell_of x) (exit x))).heading x) (found (choice sweep.marks.table x) (fl (megacell_of x) (exit x))) in
-        let a1 : F p (G.floor sweep.rover) = subst (λ (fl : Floor). F p fl) (sym st.floor) a0 in
-        let a2 : F (G.place sweep.rover) (G.floor sweep.rover) = subst (λ (x : Place). F x (G.floor sweep.rover)) (sym st.promise.standing) a1 in
-        subst (λ (x : Place). After z qs sweep.marks.table (exit (G.place sweep.rover)) x (found_for G sweep)) decided_leads_there a2
+    left_after = rw (← decided_leads_there, st.promise.standing) (move_leaves (G.place origin) _ sweep.marks.table _ _ refl sweep.marks.size st.workings.tells)
 
     looks_are_few : sweep.looks ≤ 3073
     looks_are_few = omega (arith, st.promise.few, at_most_1024 _ _ st.promise.cells)
@@ -217,8 +205,7 @@ module _ {R A : Type 0} (G : Ghosts R A) (origin : R) (law : Lawful (G.floor ori
     slots_is = m.charted ∙ ap (λ (fd : Place → A). set slots (slot_of q) (Some (fd q))) st.field
 
     underway_after : Underway (G.floor origin) (G.place origin) after.moves
-    underway_after = underway_at (G.floor origin) (G.place origin) after.moves (sweep.moves + 1) one_more
-        (underway_one_more (G.floor origin) law (G.place origin) sweep.moves st.workings.underway (sym st.workings.homed ∙ far))
+    underway_after = rw one_more (underway_one_more (G.floor origin) law (G.place origin) sweep.moves st.workings.underway (sym st.workings.homed ∙ far))
 
     due_after : after.moves ≡ asked + 1
     due_after = omega (arith, one_more, st.workings.due far)
@@ -287,10 +274,6 @@ module _ {R A : Type 0} (G : Ghosts R A) (origin : R) (law : Lawful (G.floor ori
       heading = by.heading ∙ ap (λ (k : Move). k.heading) decided_is_next;
       place = sym (ap (here (G.place origin)) next_enters);
     }
-
--- what holds of the error holds by cases of the result
-pub at_err : {X Y : Type 0} (P : X → Type 0) (Q : Y → Type 0) (r : Result X Y) (e : Y) → r ≡ Err e → Q e → MatchResult r P Q
-at_err {X = X} {Y = Y} P Q r e i q = subst (λ (x : Result X Y). MatchResult x P Q) (sym i) q
 
 -- What an advance promises, by what the table made of it.
 module _ {R A : Type 0} (G : Ghosts R A) (laws : (r : R) → Lawful (G.floor r)) (sweep : Sweep R A) (slots : List (Slot A)) (after : Sweep R A) (slots_after : List (Slot A)) (far : sweep.home ≡ false) where

@@ -15,7 +15,7 @@ loop-call-init g c = gathered_none c.start-sweep.ensures.begun c.start-sweep.ens
 pub loop-call-preserved : goal.loop-call-preserved
 loop-call-preserved g c =
     rw (sum_by_more wants c.args.calls.now c.loop-call.call-index Advance c.loop-call-test.true)
-    (gathered_more (lawful g.met.R.Rover.sides g.met.R.Rover.edge) c.loop-call.invariant (omega arith) (omega arith) (search (rules, places)) c.make_call-written.ensures)
+    (gathered_more (lawful g.met.R.Rover.sides g.met.R.Rover.edge) c.loop-call.invariant (omega arith) (omega arith) (search (rules, places)) (search rules))
 
 -- after the last call
 pub returns : goal.returns

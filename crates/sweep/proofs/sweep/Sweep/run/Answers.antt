@@ -2,7 +2,7 @@ use Rattle.std.proofs.Common.{◌≡◌, ℕ, ◌+◌, Err, refl, inl, inr, arit
 use Rattle.std.proofs.lemmas.Bool.{both_ways}
 use Rattle.std.proofs.lemmas.List.{set-get_or}
 use Rattle.sweep.specs.Journey.{Journey}
-use Rattle.sweep.proofs.Telling.{lawful, at_err}
+use Rattle.sweep.proofs.Telling.{lawful}
 use Rattle.sweep.proofs.Running.{run_of_no_move, run_of_one_more, run_is_done, run_refused_by_rover}
 use Rattle.sweep.proofs.sweep.Sweep.run.Goals as goal
 
@@ -21,8 +21,7 @@ returns-in_err-moved g c =
     let never : (origin : g.row.R.Denot) (asked : ℕ) → Journey g.R.Rover origin asked c.args.self.now → ⊥ = λ origin asked st. both_ways _ c.if-self.false (w.law origin (asked + c.loop-letters.letters) run.room (run.law origin asked st).journey).1.0 in
     let is : c.from_residual-in_err-moved.result ≡ Err c.in_err-moved.field-0.0 = search rules in
     record {
-      done = at_err _ _ c.from_residual-in_err-moved.result c.in_err-moved.field-0.0 is
-          (rw set-get_or (run_refused_by_rover (lawful g.met.R.Rover.sides g.met.R.Rover.edge) run c.in_err-moved.field-0.0 (omega arith) c.if-self.false w.done.0 w.done.1));
+      done = rw (is, set-get_or) (run_refused_by_rover (lawful g.met.R.Rover.sides g.met.R.Rover.edge) run c.in_err-moved.field-0.0 (omega arith) c.if-self.false w.done.0 w.done.1);
       law = λ origin asked room st. absurd (never origin asked st);
       chart = λ origin asked st ch. absurd (never origin asked st);
       short = λ origin asked few st. absurd (never origin asked st);
