@@ -48,11 +48,7 @@ pub fn show(
 pub fn run<
     T: Drop,
     F: FnOnce(&[u8], u8, &mut [Slot<T>], &mut [u8], &mut [u8]) -> Result<usize, SurveyFault>,
->(
-    rt: &HostRuntime,
-    most: u64,
-    survey: F,
-) -> anyhow::Result<()>
+>(rt: &HostRuntime, most: u64, survey: F) -> anyhow::Result<()>
     requires { (input : _) (chart : _) (tour : _) (sheet : _) → F.pre survey input 0 chart tour sheet }
 {
     let heap = rt.alloc();
