@@ -1,4 +1,4 @@
-ghost use Rattle.std.specs.Prelude.{◌≡◌, ◌≤◌, length, Some, MatchResult, slice_set};
+ghost use Rattle.std.specs.Prelude.{◌≡◌, ◌≤◌, length, None, Some, IfOk, MatchResult, replicate, slice_set};
 ghost use Rattle.std.specs.Option.{option_map};
 ghost use Rattle.board.specs.Places.{slot_of};
 ghost use Rattle.chart.specs.Charts.{slot_at, Blank, SameBeyond, TooFew};
@@ -6,9 +6,19 @@ ghost use Rattle.chart.specs.Charts.{slot_at, Blank, SameBeyond, TooFew};
 use crate::faults::ChartFault;
 use crate::slot::Slot;
 use board::place::Place;
+use std::alloc::{AllocError, Global};
 
 /// The slots of a chart: one for each place of the board.
 pub const SLOTS: usize = 4096;
+
+/// The slots of a chart for a kind of reading, all empty; or want of memory.
+pub fn chart_of<T: Drop>(heap: Global) -> Result<Vec<Slot<T>>, AllocError>
+    ensures { IfOk result (λ v. v.items ≡ replicate 4096 None) }
+{
+    let mut chart = Vec::new(heap);
+    chart.resize_with(SLOTS, || None)?;
+    Ok(chart)
+}
 
 /// Refuses slots that are too few for a chart.
 pub fn need<T>(slots: &[Slot<T>]) -> Result<(), ChartFault>

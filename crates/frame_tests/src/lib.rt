@@ -5,14 +5,15 @@
 mod tests {
     use board::heading::Heading;
     use board::place::Place;
-    use chart::slot::Slot;
     use chart::slots;
-    use drawn_floor::drawn_rover::DrawnRover;
+    use drawn_floor::floor::{DrawnFloor, DrawnRover};
     use drawn_floor::light::Light;
     use fault::Fault;
+    use fault::layer::Layer;
+    use fault::refusal::Refusal;
     use frame::Frame;
     use frame::mirror::Mirror;
-    use frame::numbered::numbered;
+    use frame::numbered::Numbered;
     use frame::pair::Pair;
     use frame::turn::Turn;
     use framed::Framed;
@@ -21,56 +22,41 @@ mod tests {
     use rover::meaning::Rover;
     use std::test::Fail;
 
-    // where a frame takes (row, column), as a slot; 4096 off the board
-    fn taken<F: Frame>(frame: &F, row: u8, column: u8) -> usize {
-        match Place::new(row, column) {
-            Some(place) => frame.place(place).slot(),
-            None => 4096,
-        }
+    // the rover of a map
+    fn drawn(map: &[u8]) -> Result<DrawnRover, Fail> {
+        let drawing = Drawing::read(map)?;
+        Ok(DrawnRover::new(DrawnFloor { drawing }))
+    }
+
+    // where a frame takes (row, column), as a slot; none off the board
+    fn taken<F: Frame>(frame: &F, row: u8, column: u8) -> Option<usize> {
+        Some(frame.place(Place::new(row, column)?).slot())
     }
 
     #[test]
     fn turns(rt: HostRuntime) {
-        assert_eq!(rt; taken(&Turn { quarters: 1 }, 1, 1), 64 + 62);
-        assert_eq!(rt; taken(&Turn { quarters: 2 }, 1, 1), 64 * 62 + 62);
-        assert_eq!(rt; taken(&Turn { quarters: 3 }, 1, 1), 64 * 62 + 1);
-        assert_eq!(rt;
-            taken(
-                &Turn {
-                    quarters: 4_000_000_001,
-                },
-                1,
-                1,
-            ),
-            64 + 62
-        );
-        assert!(rt; Turn { quarters: 3 }.heading(Heading::North) == Heading::West);
-        assert_eq!(rt; taken(&Mirror, 5, 40), 64 * 5 + 23);
+        let many = Turn {
+            quarters: 4_000_000_001,
+        };
+        assert_eq!(rt; taken(&Turn { quarters: 1 }, 1, 1), Some(64 + 62));
+        assert_eq!(rt; taken(&Turn { quarters: 2 }, 1, 1), Some(64 * 62 + 62));
+        assert_eq!(rt; taken(&Turn { quarters: 3 }, 1, 1), Some(64 * 62 + 1));
+        assert_eq!(rt; taken(&many, 1, 1), Some(64 + 62));
+        assert_eq!(rt; Turn { quarters: 3 }.heading(Heading::North), Heading::West);
+        assert_eq!(rt; taken(&Mirror, 5, 40), Some(64 * 5 + 23));
     }
 
     // frame 5 mirrors and then makes one quarter turn; frame 8 is none
     #[test]
     fn numbers(rt: HostRuntime) -> Result<(), Fail> {
-        match numbered(5) {
-            Ok(frame) => {
-                // (1, 1), mirrored to (1, 62), turned to (62, 62)
-                assert_eq!(rt; taken(&frame, 1, 1), 64 * 62 + 62);
-                // east, mirrored to west, turned to north
-                assert!(rt; frame.heading(Heading::East) == Heading::North);
-            }
-            Err(fault) => assert_eq!(rt; fault.place(), 4096),
-        }
-        match numbered(8) {
-            Ok(frame) => {
-                assert_eq!(rt; taken(&frame, 1, 1), 4096);
-                Ok(())
-            },
-            Err(fault) => {
-                assert_eq!(rt; fault.number(), 1);
-                assert_eq!(rt; fault.place(), 0);
-                Ok(())
-            }
-        }
+        let frame = Numbered::try_from(5)?;
+        // (1, 1), mirrored to (1, 62), turned to (62, 62)
+        assert_eq!(rt; taken(&frame, 1, 1), Some(64 * 62 + 62));
+        // east, mirrored to west, turned to north
+        assert_eq!(rt; frame.heading(Heading::East), Heading::North);
+        let refusal = Numbered::try_from(8).err().map(|fault| fault.refusal());
+        assert_eq!(rt; refusal, Some(Refusal::new(1, Layer::Survey, 0)));
+        Ok(())
     }
 
     // one function for every rover: round its megacell counter-clockwise, and back where it was
@@ -84,7 +70,7 @@ mod tests {
     // the same function drives a rover, and the rover under three different frames
     #[test]
     fn piles(rt: HostRuntime) -> Result<(), Fail> {
-        let mut plain = DrawnRover::new(Drawing::read(b"S9\n.#\n")?);
+        let mut plain = drawn(b"S9\n.#\n")?;
         assert_eq!(rt; round(&mut plain)?, 64 + 1);
         let mut pile = Framed {
             below: Framed {
@@ -113,61 +99,38 @@ mod tests {
     #[test]
     fn refusals(rt: HostRuntime) -> Result<(), Fail> {
         let mut rover = Framed {
-            below: DrawnRover::new(Drawing::read(b"S\n")?),
+            below: drawn(b"S\n")?,
             frame: Mirror,
         };
-        match rover.step(Heading::West) {
-            Ok(()) => {
-                assert!(rt; false);
-                Ok(())
-            },
-            Err(fault) => {
-                assert_eq!(rt; fault.number(), 15);
-                assert_eq!(rt; fault.place(), 64 + 62);
-                let RoverFault::Closed { slot: _, heading } = fault;
-                assert!(rt; heading == Heading::West);
-                Ok(())
-            }
-        }
+        let fault = RoverFault::Closed {
+            slot: 64 + 62,
+            heading: Heading::West,
+        };
+        assert_eq!(rt; rover.step(Heading::West), Err(fault));
+        assert_eq!(rt; fault.number(), 15);
+        assert_eq!(rt; fault.place(), 64 + 62);
+        Ok(())
     }
 
     // a chart of counts, and one of lights
     #[test]
-    fn charts(rt: HostRuntime) -> Result<(), Fail> {
+    fn charts(rt: HostRuntime) {
         let mut few = [Some(7u16), None];
-        match slots::empty(&mut few) {
-            Ok(()) => {
-                assert!(rt; false);
-                Ok(())
-            },
-            Err(fault) => {
-                assert_eq!(rt; fault.number(), 13);
-                assert_eq!(rt; fault.place(), 2);
-                Ok(())
-            }
-        }
+        let refused = slots::empty(&mut few).map_err(|fault| fault.refusal());
+        assert_eq!(rt; refused, Err(Refusal::new(13, Layer::Chart, 2)));
     }
 
     #[test]
     fn lights(rt: HostRuntime) -> Result<(), Fail> {
-        let rover = DrawnRover::new(Drawing::read(b"S9\n.#\n")?);
+        let rover = drawn(b"S9\n.#\n")?;
         let mut chart = Vec::new(rt.alloc());
-        for _ in 0..4097 {
-            chart.push(Some(Light::Lux(1.0)))?;
-        }
+        chart.resize_with(4097, || Some(Light::Lux(1.0)))?;
         slots::empty(chart.as_mut_slice())?;
         slots::put(chart.as_mut_slice(), rover.place(), rover.read())?;
-        match slots::at(chart.as_slice(), rover.place())? {
-            Some(Light::Unlit) => {}
-            _ => assert!(rt; false),
-        }
+        let reading = slots::at(chart.as_slice(), rover.place())?;
+        assert!(rt; matches!(reading, Some(Light::Unlit)));
         assert!(rt; chart.len() == 4097);
-        match &chart[4096] {
-            Some(_) => Ok(()),
-            None => {
-                assert!(rt; false);
-                Ok(())
-            },
-        }
+        assert!(rt; chart[4096].is_some());
+        Ok(())
     }
 }

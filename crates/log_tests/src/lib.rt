@@ -23,7 +23,7 @@ mod tests {
     use board::corner::Corner;
     use board::heading::Heading;
     use board::megacell::Megacell;
-    use log_floor::log_rover::LogRover;
+    use log_floor::floor::{LogFloor, LogRover};
     use rover::meaning::Rover;
     use std::test::Fail;
 
@@ -120,7 +120,8 @@ mod tests {
     #[test]
     fn rover_on_a_log(rt: HostRuntime) -> Result<(), Fail> {
         let bytes = two_records(2);
-        let mut rover = LogRover::new(Log::read(&bytes)?);
+        let log = Log::read(&bytes)?;
+        let mut rover = LogRover::new(LogFloor { log });
         assert!(rt; rover.place().slot() == 65 && rover.moves() == 0 && rover.looks() == 0);
         assert!(rt; rover.read() == 16);
         assert!(rt; rover.look(Heading::East) && !rover.look(Heading::South));
@@ -135,7 +136,8 @@ mod tests {
     #[test]
     fn one_word(rt: HostRuntime) -> Result<(), Fail> {
         let bytes = two_records(13);
-        let mut rover = LogRover::new(Log::read(&bytes)?);
+        let log = Log::read(&bytes)?;
+        let mut rover = LogRover::new(LogFloor { log });
         assert!(rt; !rover.look(Heading::East));
         match rover.step(Heading::East) {
             Ok(()) => return Err(Fail::new("an open side")),

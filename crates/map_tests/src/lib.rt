@@ -30,11 +30,17 @@ fn said(map: &[u8]) -> Result<usize, (u8, usize)>
 mod tests {
     use super::*;
     use board::heading::Heading;
-    use drawn_floor::drawn_rover::DrawnRover;
+    use drawn_floor::floor::{DrawnFloor, DrawnRover};
     use drawn_floor::light::Light;
     use rover::meaning::Rover;
     use std::array::from_fn;
     use std::test::Fail;
+
+    // the rover of a map
+    fn drawn(map: &[u8]) -> Result<DrawnRover, Fail> {
+        let drawing = Drawing::read(map)?;
+        Ok(DrawnRover::new(DrawnFloor { drawing }))
+    }
 
     // worked maps; an accepted one says the number of its start
     #[test]
@@ -168,7 +174,7 @@ mod tests {
     // the four subcells of a 9 read 112.5 lux, all others are unlit
     #[test]
     fn lamps(rt: HostRuntime) -> Result<(), Fail> {
-        let mut rover = DrawnRover::new(Drawing::read(b"S9\n")?);
+        let mut rover = drawn(b"S9\n")?;
         assert!(rt; matches!(rover.read(), Light::Unlit));
         for heading in [Heading::East, Heading::North, Heading::East, Heading::South] {
             rover.step(heading)?;
@@ -180,7 +186,7 @@ mod tests {
     // on rows S. and .#: looks and steps are counted, a refused step is not and leaves the rover where it stands
     #[test]
     fn drive(rt: HostRuntime) -> Result<(), Fail> {
-        let mut rover = DrawnRover::new(Drawing::read(b"S.\n.#\n")?);
+        let mut rover = drawn(b"S.\n.#\n")?;
         assert!(rt; rover.place().slot() == 65);
         assert!(rt; rover.look(Heading::East) && rover.look(Heading::South));
         assert!(rt; !rover.look(Heading::North) && !rover.look(Heading::West));

@@ -5,12 +5,11 @@
 
 use board::heading::Heading;
 use chart::slot::Slot;
-use chart::slots;
-use drawn_floor::drawn_rover::DrawnRover;
+use chart::slots::{self, chart_of};
+use drawn_floor::floor::{DrawnFloor, DrawnRover};
 use fault::Fault;
 use map_format::drawing::Drawing;
 use rover::meaning::Rover;
-use std::alloc::{AllocError, Global};
 use std::io::Read;
 use std::{fmt, io};
 
@@ -64,15 +63,6 @@ fn refuse<F: Fault>(rt: &HostRuntime, fault: &F) -> anyhow::Result<()> {
     Ok(())
 }
 
-/// An empty chart of a kind of reading.
-fn chart_of<T: Drop>(heap: Global) -> Result<Vec<Slot<T>>, AllocError> {
-    let mut chart = Vec::new(heap);
-    for _ in 0..4096 {
-        chart.push(None)?;
-    }
-    Ok(chart)
-}
-
 /// The whole round of one rover.
 fn round<R: Rover + Drop>(rt: &HostRuntime, mut rover: R) -> anyhow::Result<()>
 where
@@ -93,7 +83,7 @@ fn run(rt: &HostRuntime) -> anyhow::Result<()> {
     let mut map = Vec::new(rt.alloc());
     rt.stdin().take(MOST).read_to_end(&mut map)?;
     match Drawing::read(map.as_slice()) {
-        Ok(drawing) => round(rt, DrawnRover::new(drawing)),
+        Ok(drawing) => round(rt, DrawnRover::new(DrawnFloor { drawing })),
         Err(fault) => refuse(rt, &fault),
     }
 }

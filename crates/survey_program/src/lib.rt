@@ -1,12 +1,12 @@
 //! What the survey programs share: their run, their buffers, and how they write what a survey answered.
 #![tactic(auto)]
 
-ghost use Rattle.std.specs.Prelude.{◌≡◌, replicate, IfOk, None};
+ghost use Rattle.std.specs.Prelude.{◌≡◌};
 ghost use Rattle.survey_program.specs.Shown.{Shown};
 
 use chart::slot::Slot;
+use chart::slots::chart_of;
 use sheet::layout::lay_out_refusal;
-use std::alloc::{AllocError, Global};
 use std::io::{Read, Write};
 use survey::faults::SurveyFault;
 
@@ -15,15 +15,6 @@ pub const TOUR: usize = 4096;
 
 /// Bytes that hold the longest sheet: its letters with an LF each 64, and two lines of at most 32 bytes.
 pub const SHEET: usize = 4096 + 64 + 64;
-
-/// A chart of empty slots for a kind of reading; or want of memory.
-pub fn chart_of<T: Drop>(heap: Global) -> Result<Vec<Slot<T>>, AllocError>
-    ensures { IfOk result (λ v. v.items ≡ replicate 4096 None) }
-{
-    let mut chart = Vec::new(heap);
-    chart.resize_with(4096, || None)?;
-    Ok(chart)
-}
 
 /// Writes to standard output the sheet that a survey laid out, or the line that tells its refusal. Both end well;
 /// a failed write is an error.

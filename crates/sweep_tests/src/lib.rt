@@ -4,21 +4,21 @@
 #[cfg(test)]
 mod tests {
     use board::heading::Heading;
-    use drawn_floor::drawn_rover::DrawnRover;
+    use chart::slots::chart_of;
+    use drawn_floor::floor::{DrawnFloor, DrawnRover};
     use fault::Fault;
     use frame::Frame;
     use frame::mirror::Mirror;
     use frame::turn::Turn;
     use framed::Framed;
-    use log_floor::log_rover::LogRover;
+    use log_floor::floor::{LogFloor, LogRover};
     use log_format::log::Log;
     use map_format::drawing::Drawing;
     use rover::meaning::Rover;
     use std::alloc::Global;
     use std::process::Abort;
     use std::test::Fail;
-    use survey_program::chart_of;
-    use sweep::call::Call;
+        use sweep::call::Call;
     use sweep::calls::make_calls;
     use sweep::sweep::{Record, Sweep};
 
@@ -43,7 +43,8 @@ mod tests {
     }
 
     fn drawn(map: &[u8]) -> Result<DrawnRover, Fail> {
-        Ok(DrawnRover::new(Drawing::read(map)?))
+        let drawing = Drawing::read(map)?;
+        Ok(DrawnRover::new(DrawnFloor { drawing }))
     }
 
     #[test]
@@ -105,10 +106,11 @@ mod tests {
             0, 2, 1, 2, 2, 0, 0, 0, 0, 1, 0, 2, 0, 3, 0, 4, //
             0, 0, 1, 3, 8, 0, 0, 0, 0, 5, 0, 6, 0, 7, 0, 8,
         ];
-        let plain = LogRover::new(Log::read(&bytes)?);
+        let log = Log::read(&bytes)?;
+        let plain = LogRover::new(LogFloor { log });
         tells(&rt, swept(&rt, rt.alloc(), plain)?, 8, 7, 2);
         let framed = Framed {
-            below: LogRover::new(Log::read(&bytes)?),
+            below: LogRover::new(LogFloor { log }),
             frame: Turn { quarters: 1 },
         };
         let record = swept(&rt, rt.alloc(), framed)?;

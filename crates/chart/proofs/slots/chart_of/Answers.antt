@@ -2,7 +2,7 @@ use Rattle.std.proofs.Common.{◌≡◌, ℕ, List, [], ◌∷◌, ◌++◌, len
 use Rattle.std.proofs.lemmas.Fn.{chained_keeps}
 use Rattle.std.proofs.lemmas.List.{replicate-append-replicate}
 use Rattle.chart.specs.Charts.{Slot}
-use Rattle.survey_program.proofs.chart_of.Goals as goal
+use Rattle.chart.proofs.slots.chart_of.Goals as goal
 
 pub returns : goal.returns
 returns g c =
