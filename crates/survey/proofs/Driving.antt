@@ -22,28 +22,29 @@ same_record a b m l c h = λ i. record { moves = m i; looks = l i; megacells = c
 
 module _ {R A : Type 0} (G : Ghosts R A) (origin : R) (after : Sweep R A) (slots slots_after : List (Slot A)) (bytes bytes_after : List ℕ) (made : ℕ) where
   -- as many moves as letters were made, and they are those that the buffer takes
-  pub made_are : Journey G origin (0 + length bytes) after → after.moves ≡ made → made ≡ moves_in (G.floor origin) (G.place origin) (length bytes)
+  pub made_are : Journey G origin (0 + length bytes) after → after.told.moves ≡ made → made ≡ moves_in (G.floor origin) (G.place origin) (length bytes)
   made_are j e =
       let w = (subst (λ (n : ℕ). Journey G origin n after) (zero-add (length bytes)) j).workings in
-      sym e ∙ moves_are (G.floor origin) (G.place origin) (length bytes) after.moves after.home w.underway w.homed w.due w.most
+      sym e ∙ moves_are (G.floor origin) (G.place origin) (length bytes) after.told.moves after.told.home w.underway w.homed w.due w.most
 
   -- the record is the tour's
-  pub record_is : (told : Record) (asked : ℕ) → Journey G origin asked after → after.moves ≡ made → told.moves ≡ after.moves → told.looks ≡ after.looks → told.megacells ≡ after.megacells → told.home ≡ after.home → told ≡ record_after (G.floor origin) (G.place origin) made
-  record_is told asked j e m l c h =
-      same_record told (record_after (G.floor origin) (G.place origin) made)
-      (m ∙ e)
-      (l ∙ j.promise.looks ∙ ap (tour_looks (G.floor origin) (G.place origin)) e)
-      (c ∙ one_number.tested (old (G.place origin) (visited (G.floor origin) (G.place origin) after.moves)) _ _ j.promise.cells (old_number (G.place origin) (visited (G.floor origin) (G.place origin) after.moves))
+  pub record_is : (told : Record) (asked : ℕ) → Journey G origin asked after → after.told.moves ≡ made → told ≡ after.told → told ≡ record_after (G.floor origin) (G.place origin) made
+  record_is told asked j e is =
+      is
+      ∙ same_record after.told (record_after (G.floor origin) (G.place origin) made)
+      e
+      (j.promise.looks ∙ ap (tour_looks (G.floor origin) (G.place origin)) e)
+      (one_number.tested (old (G.place origin) (visited (G.floor origin) (G.place origin) after.told.moves)) _ _ j.promise.cells (old_number (G.place origin) (visited (G.floor origin) (G.place origin) after.told.moves))
       ∙ ap (λ (n : ℕ). old_count (G.place origin) (visited (G.floor origin) (G.place origin) n)) e)
-      (h ∙ j.workings.homed ∙ ap (home_after (G.floor origin) (G.place origin)) e)
+      (j.workings.homed ∙ ap (home_after (G.floor origin) (G.place origin)) e)
 
-  pub driven_by : (asked : ℕ) → Journey G origin asked after → Charts G origin after slots_after → after.moves ≡ made → made ≤ length bytes → length bytes_after ≡ length bytes →
+  pub driven_by : (asked : ℕ) → Journey G origin asked after → Charts G origin after slots_after → after.told.moves ≡ made → made ≤ length bytes → length bytes_after ≡ length bytes →
       Letters (G.floor origin) (G.place origin) 0 made bytes_after → SameFrom made bytes bytes_after → SameBeyond slots slots_after →
       Driven (G.floor origin) (G.field origin) (G.place origin) made slots bytes slots_after bytes_after
   driven_by asked j ch e fits long wrote rest beyond =
       let c : OnChart (G.floor origin) (G.field origin) (G.place origin) made slots_after = subst (λ (n : ℕ). OnChart (G.floor origin) (G.field origin) (G.place origin) n slots_after) e ch in
-      let p : Promise (G.floor origin) (G.place origin) asked (G.place after.rover) made after.looks after.megacells after.home = subst (λ (n : ℕ). Promise (G.floor origin) (G.place origin) asked (G.place after.rover) n after.looks after.megacells after.home) e j.promise in
-      let homed : after.home ≡ home_after (G.floor origin) (G.place origin) made = j.workings.homed ∙ ap (home_after (G.floor origin) (G.place origin)) e in
+      let p : Promise (G.floor origin) (G.place origin) asked (G.place after.rover) made after.told.looks after.told.megacells after.told.home = subst (λ (n : ℕ). Promise (G.floor origin) (G.place origin) asked (G.place after.rover) n after.told.looks after.told.megacells after.told.home) e j.promise in
+      let homed : after.told.home ≡ home_after (G.floor origin) (G.place origin) made = j.workings.homed ∙ ap (home_after (G.floor origin) (G.place origin)) e in
       record {
         chart = c;
         beyond = beyond;

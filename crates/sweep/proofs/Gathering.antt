@@ -102,7 +102,7 @@ module _ {R A : Type 0} {G : Ghosts R A} {sweep after : Sweep R A} {slots slots_
   -- a run
   pub run_makes : {made : ℕ} → Runs G sweep slots (take part (drop 0 bytes)) after slots_after out made →
       ((origin : R) (asked : ℕ) → 4096 ≤ length slots → Journey G origin asked sweep → Journey G origin (asked + length (take part (drop 0 bytes))) after
-      × ((after.moves ≡ sweep.moves + made) × Letters (G.floor origin) (G.place origin) sweep.moves made out × Filled (G.floor origin) (G.field origin) (G.place origin) sweep.moves after.moves slots slots_after)) →
+      × ((after.told.moves ≡ sweep.told.moves + made) × Letters (G.floor origin) (G.place origin) sweep.told.moves made out × Filled (G.floor origin) (G.field origin) (G.place origin) sweep.told.moves after.told.moves slots slots_after)) →
       ((origin : R) (asked : ℕ) → Journey G origin asked sweep → Charts G origin sweep slots → Charts G origin after slots_after) →
       Makes G sweep slots bytes after slots_after (put_mid 0 part bytes out) made wanted
   run_makes {made = made} runs law chart =
@@ -162,9 +162,9 @@ letters_listed floor s (suc n) bytes fits w =
 -- where the slots are enough: all of the promise but the chart
 pub record Moved {R A : Type 0} (G : Ghosts R A) (rover : R) (slots : List (Slot A)) (sweep : Sweep R A) (slots_after : List (Slot A)) (bytes_after : List ℕ) (written asked : ℕ) : Type 0 where
   pub journey : Journey G rover asked sweep
-  pub moves : sweep.moves ≡ written
+  pub moves : sweep.told.moves ≡ written
   pub wrote : Letters (G.floor rover) (G.place rover) 0 written bytes_after
-  pub fills : Filled (G.floor rover) (G.field rover) (G.place rover) 0 sweep.moves slots slots_after
+  pub fills : Filled (G.floor rover) (G.field rover) (G.place rover) 0 sweep.told.moves slots slots_after
 
 -- the invariant of the loop: so many letters are written, and the calls so far want so many moves
 pub record Gathered {R A : Type 0} (G : Ghosts R A) (rover : R) (slots : List (Slot A)) (bytes : List ℕ) (sweep : Sweep R A) (slots_after : List (Slot A)) (bytes_after : List ℕ) (written wanted : ℕ) : Type 0 where
@@ -185,7 +185,7 @@ gathered_none {G = G} {rover = rover} {sweep = sweep} {slots = slots} begun star
     journey = subst (λ (k : ℕ). Journey G rover k sweep) (omega arith) started;
     moves = begun.moves;
     wrote = λ i h. absurd (omega arith);
-    fills = subst (λ (n : ℕ). Filled (G.floor rover) (G.field rover) (G.place rover) n sweep.moves slots slots) begun.moves (fills_none (G.floor rover) (G.field rover) (G.place rover) sweep.moves slots);
+    fills = subst (λ (n : ℕ). Filled (G.floor rover) (G.field rover) (G.place rover) n sweep.told.moves slots slots) begun.moves (fills_none (G.floor rover) (G.field rover) (G.place rover) sweep.told.moves slots);
   };
   rest = λ room i h. refl;
   chart = chart slots;
@@ -193,10 +193,10 @@ gathered_none {G = G} {rover = rover} {sweep = sweep} {slots = slots} begun star
 }
 
 -- a sweep that is home stays there, however many moves are asked for
-home_stays : {R A : Type 0} {G : Ghosts R A} {origin : R} {asked more : ℕ} {sweep after : Sweep R A} → sweep.home ≡ true → asked ≤ more → Journey G origin asked sweep → Journey G origin more after → (after.moves ≡ sweep.moves) × (after.home ≡ true)
+home_stays : {R A : Type 0} {G : Ghosts R A} {origin : R} {asked more : ℕ} {sweep after : Sweep R A} → sweep.told.home ≡ true → asked ≤ more → Journey G origin asked sweep → Journey G origin more after → (after.told.moves ≡ sweep.told.moves) × (after.told.home ≡ true)
 home_stays {G = G} {origin = origin} {sweep = sweep} {after = after} e h st on =
     let k = st.promise.ground in
-    let same : after.moves ≡ sweep.moves = omega (arith, st.promise.four e k.0 k.1, st.workings.most, on.promise.made k.0 k.1) in
+    let same : after.told.moves ≡ sweep.told.moves = omega (arith, st.promise.four e k.0 k.1, st.workings.most, on.promise.made k.0 k.1) in
     (same, on.promise.ends (subst (λ (n : ℕ). Whole (G.floor origin) (G.place origin) n) (sym same) (st.promise.whole e)))
 
 module _ {R A : Type 0} {G : Ghosts R A} (laws : (r : R) → Lawful (G.floor r)) {rover : R} {slots : List (Slot A)} {bytes : List ℕ} {sweep : Sweep R A} {slots_mid : List (Slot A)} {bytes_mid : List ℕ} {written wanted : ℕ}
@@ -215,7 +215,7 @@ module _ {R A : Type 0} {G : Ghosts R A} (laws : (r : R) → Lawful (G.floor r))
             let m = so_far.moved room in
             let t = call.law rover _ (omega arith) m.journey in
             record {
-              journey = elim (cases_Bool sweep.home) [
+              journey = elim (cases_Bool sweep.told.home) [
                 | inl e ↦
                     let stays = home_stays e (omega arith) m.journey t.journey in
                     journey_idles_at_home G rover (laws rover) _ after t.journey _ stays.1 (omega (arith, stays.0, m.journey.workings.most))
@@ -241,12 +241,12 @@ module _ {R A : Type 0} {G : Ghosts R A} (laws : (r : R) → Lawful (G.floor r))
 -- after the last call
 module _ {R A : Type 0} {G : Ghosts R A} {rover : R} {slots : List (Slot A)} {bytes : List ℕ} {sweep : Sweep R A} {slots_after : List (Slot A)} {bytes_after : List ℕ} {written wanted : ℕ}
     (all : Gathered G rover slots bytes sweep slots_after bytes_after written wanted) where
-  pub calls_anyway : length bytes_after ≡ length bytes → 4096 ≤ length slots → Journey G rover (min (length bytes) wanted) sweep × Wrote G rover sweep bytes_after × Filled (G.floor rover) (G.field rover) (G.place rover) 0 sweep.moves slots slots_after
+  pub calls_anyway : length bytes_after ≡ length bytes → 4096 ≤ length slots → Journey G rover (min (length bytes) wanted) sweep × Wrote G rover sweep bytes_after × Filled (G.floor rover) (G.field rover) (G.place rover) 0 sweep.told.moves slots slots_after
   calls_anyway long room =
       let m = all.moved room in
-      (m.journey, letters_listed (G.floor rover) (G.place rover) sweep.moves bytes_after (omega (arith, all.fits, m.moves)) (λ i h. m.wrote i (omega (arith, m.moves)) ∙ ap (λ (x : ℕ). letter (move_after (G.floor rover) (G.place rover) x).heading) (omega arith)), m.fills)
+      (m.journey, letters_listed (G.floor rover) (G.place rover) sweep.told.moves bytes_after (omega (arith, all.fits, m.moves)) (λ i h. m.wrote i (omega (arith, m.moves)) ∙ ap (λ (x : ℕ). letter (move_after (G.floor rover) (G.place rover) x).heading) (omega arith)), m.fills)
 
-  pub calls_rest : SameFrom sweep.moves bytes bytes_after
+  pub calls_rest : SameFrom sweep.told.moves bytes bytes_after
   calls_rest i h = elim (cases_lt (length slots) 4096) [
     | inl lack ↦ ap (λ (x : List ℕ). get_or x i 0) (all.short lack).2
     | inr room ↦ all.rest room i (omega (arith, h, (all.moved room).moves))

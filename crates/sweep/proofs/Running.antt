@@ -62,14 +62,14 @@ nothing_told {G = G} {sweep = sweep} {slots = slots} {origin = origin} none st =
   journey = subst (λ (k : ℕ). Journey G origin k sweep) (omega arith) st;
   moves = omega arith;
   writes = λ i h. absurd (omega arith);
-  fills = fills_none (G.floor origin) (G.field origin) (G.place origin) sweep.moves slots;
+  fills = fills_none (G.floor origin) (G.field origin) (G.place origin) sweep.told.moves slots;
 }
 
 -- the invariant of the loop
 pub record Running {R A : Type 0} (G : Ghosts R A) (sweep : Sweep R A) (slots : List (Slot A)) (before : List ℕ) (after : Sweep R A) (slots_after : List (Slot A)) (bytes : List ℕ) (letters : ℕ) : Type 0 where
   pub runs : Runs G sweep slots before after slots_after bytes letters
   pub room : 4096 ≤ length slots_after
-  pub idle : sweep.home ≡ true → (letters ≡ 0) × Still G sweep slots after slots_after
+  pub idle : sweep.told.home ≡ true → (letters ≡ 0) × Still G sweep slots after slots_after
   pub law : (origin : R) (asked : ℕ) → Journey G origin asked sweep → Told G sweep after slots slots_after bytes letters letters origin asked
   pub chart : (origin : R) (asked : ℕ) → Journey G origin asked sweep → Charts G origin sweep slots → Charts G origin after slots_after
 
@@ -84,7 +84,7 @@ run_of_no_move {G = G} {sweep = sweep} {slots = slots} room = record {
     floor = refl;
     field = refl;
     start = refl;
-    moves = counted_none sweep.moves;
+    moves = counted_none sweep.told.moves;
     driven = counted_none (G.moves sweep.rover);
   };
   room = room;
@@ -106,8 +106,8 @@ module _ {R A : Type 0} {G : Ghosts R A} (laws : (r : R) → Lawful (G.floor r))
     (run : Running G sweep slots before after slots_after bytes letters) where
   -- one more move
   pub run_of_one_more : {later : Sweep R A} {slots_later : List (Slot A)} {h : Heading} {q : Place} {byte : ℕ} →
-      (4096 ≤ length slots_after) × (after.home ≡ false) × Steps G after slots_after later slots_later h q →
-      ((origin : R) (asked : ℕ) → 4096 ≤ length slots_after → Journey G origin asked after → Journey G origin (asked + 1) later × ((after.home ≡ false) × NextMove (G.floor origin) (G.place origin) after.moves h q)) →
+      (4096 ≤ length slots_after) × (after.told.home ≡ false) × Steps G after slots_after later slots_later h q →
+      ((origin : R) (asked : ℕ) → 4096 ≤ length slots_after → Journey G origin asked after → Journey G origin (asked + 1) later × ((after.told.home ≡ false) × NextMove (G.floor origin) (G.place origin) after.told.moves h q)) →
       ((origin : R) (asked : ℕ) → Journey G origin asked after → Charts G origin after slots_after → Charts G origin later slots_later) →
       byte ≡ letter h → letters < length before → length bytes ≡ length before → 4096 ≤ length slots_later →
       Running G sweep slots before later slots_later (set bytes letters byte) (letters + 1)
@@ -122,7 +122,7 @@ module _ {R A : Type 0} {G : Ghosts R A} (laws : (r : R) → Lawful (G.floor r))
           floor = m.floor ∙ run.runs.floor;
           field = m.field ∙ run.runs.field;
           start = m.start ∙ run.runs.start;
-          moves = m.moves ∙ ap counted run.runs.moves ∙ counted_more letters sweep.moves;
+          moves = m.moves ∙ ap counted run.runs.moves ∙ counted_more letters sweep.told.moves;
           driven = m.driven ∙ ap counted run.runs.driven ∙ counted_more letters (G.moves sweep.rover);
         };
         room = room;
@@ -131,7 +131,7 @@ module _ {R A : Type 0} {G : Ghosts R A} (laws : (r : R) → Lawful (G.floor r))
             let t = run.law origin asked st in
             let w = law origin (asked + letters) run.room t.journey in
             let next = w.1.1 in
-            let one = one_move_more m (at_most_4096_moves (G.floor origin) (laws origin) (G.place origin) after.moves t.journey.workings.underway) in
+            let one = one_move_more m (at_most_4096_moves (G.floor origin) (laws origin) (G.place origin) after.told.moves t.journey.workings.underway) in
             record {
               journey = subst (λ (k : ℕ). Journey G origin k later) (omega arith) w.0;
               moves = omega (arith, one, t.moves);
@@ -145,9 +145,9 @@ module _ {R A : Type 0} {G : Ghosts R A} (laws : (r : R) → Lawful (G.floor r))
       }
 
   -- the run ends with a full buffer, or home
-  pub run_is_done : {count : ℕ} → count ≡ letters → (letters ≡ length before) ⊎ (after.home ≡ true) → (origin : R) (asked : ℕ) → 4096 ≤ length slots → Journey G origin asked sweep →
+  pub run_is_done : {count : ℕ} → count ≡ letters → (letters ≡ length before) ⊎ (after.told.home ≡ true) → (origin : R) (asked : ℕ) → 4096 ≤ length slots → Journey G origin asked sweep →
       Journey G origin (asked + length before) after
-      × ((after.moves ≡ sweep.moves + count) × Letters (G.floor origin) (G.place origin) sweep.moves count bytes × Filled (G.floor origin) (G.field origin) (G.place origin) sweep.moves after.moves slots slots_after)
+      × ((after.told.moves ≡ sweep.told.moves + count) × Letters (G.floor origin) (G.place origin) sweep.told.moves count bytes × Filled (G.floor origin) (G.field origin) (G.place origin) sweep.told.moves after.told.moves slots slots_after)
   run_is_done e why origin asked _ st =
       let t = run.law origin asked st in (
         elim why [
@@ -179,7 +179,7 @@ module _ {R A : Type 0} {G : Ghosts R A} (laws : (r : R) → Lawful (G.floor r))
   }
 
   -- once the slots are enough, a run is refused for no reason but the rover's
-  pub run_refused_by_rover : {later : Sweep R A} {slots_later : List (Slot A)} (e : SweepFault) → letters < length before → after.home ≡ false → Refuses G after (length slots_after) e → Still G after slots_after later slots_later →
+  pub run_refused_by_rover : {later : Sweep R A} {slots_later : List (Slot A)} (e : SweepFault) → letters < length before → after.told.home ≡ false → Refuses G after (length slots_after) e → Still G after slots_after later slots_later →
       RunRefuses G sweep slots before later slots_later bytes e
   run_refused_by_rover (Chart e) fits far w s = absurd (omega (arith, w.0, run.room))
   run_refused_by_rover Home fits far w s = both_ways _ far w.1

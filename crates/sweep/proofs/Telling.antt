@@ -118,34 +118,34 @@ promise_from_workings floor s asked place n looked olds is_home law stands looks
       few = omega (arith, few.2, one_number.tested (old s (visited floor s n)) few.0 olds few.1 cells);
     }
 
-pub one_move_more : {R A : Type 0} {G : Ghosts R A} {sweep after : Sweep R A} {slots slots_after : List (Slot A)} {h : Heading} {q : Place} → Steps G sweep slots after slots_after h q → sweep.moves ≤ 4096 → after.moves ≡ sweep.moves + 1
-one_move_more {sweep = sweep} m few = m.moves ∙ counted_plain sweep.moves (omega arith)
+pub one_move_more : {R A : Type 0} {G : Ghosts R A} {sweep after : Sweep R A} {slots slots_after : List (Slot A)} {h : Heading} {q : Place} → Steps G sweep slots after slots_after h q → sweep.told.moves ≤ 4096 → after.told.moves ≡ sweep.told.moves + 1
+one_move_more {sweep = sweep} m few = m.moves ∙ counted_plain sweep.told.moves (omega arith)
 
 -- One move by the table.
 module _ {R A : Type 0} (G : Ghosts R A) (origin : R) (law : Lawful (G.floor origin)) (asked : ℕ) (sweep : Sweep R A) (st : Journey G origin asked sweep) where
   -- the table decides for the move that the rules ask for
-  decided_is_next : decided_for G sweep ≡ move_after (G.floor origin) (G.place origin) sweep.moves
+  decided_is_next : decided_for G sweep ≡ move_after (G.floor origin) (G.place origin) sweep.told.moves
   decided_is_next =
       let f = G.floor origin in
       let z = G.place origin in
-      let qs = visited f z sweep.moves in
+      let qs = visited f z sweep.told.moves in
       ap (λ (p : Place). decided (choice sweep.marks.table p) (exit p) (G.floor sweep.rover (megacell_of p) (exit p))) st.promise.standing
       ∙ ap (λ (fl : Floor). decided (choice sweep.marks.table (here z qs)) (exit (here z qs)) (fl (megacell_of (here z qs)) (exit (here z qs)))) st.floor
       ∙ decided_by_the_rules f z qs sweep.marks.table st.workings.tells
 
   -- the step that the rules ask for is not refused
-  pub next_is_never_barred : sweep.home ≡ false → Blocked (G.floor sweep.rover) (G.place sweep.rover) (decided_for G sweep).heading → ⊥
+  pub next_is_never_barred : sweep.told.home ≡ false → Blocked (G.floor sweep.rover) (G.place sweep.rover) (decided_for G sweep).heading → ⊥
   next_is_never_barred far b =
       let there = rw (decided_is_next, st.promise.standing, st.floor) at b in
-      there _ ((covers (G.floor origin) law (G.place origin) sweep.moves st.workings.underway).accepted (sym st.workings.homed ∙ far))
+      there _ ((covers (G.floor origin) law (G.place origin) sweep.told.moves st.workings.underway).accepted (sym st.workings.homed ∙ far))
 
   -- at home, more asked for alters nothing
-  pub journey_idles_at_home : (more : ℕ) → sweep.home ≡ true → sweep.moves ≤ more → Journey G origin more sweep
+  pub journey_idles_at_home : (more : ℕ) → sweep.told.home ≡ true → sweep.told.moves ≤ more → Journey G origin more sweep
   journey_idles_at_home more e h =
       let w = st.workings in
       let v = st.promise in
       record {
-        promise = promise_from_workings (G.floor origin) (G.place origin) more (G.place sweep.rover) sweep.moves sweep.looks sweep.megacells sweep.home law
+        promise = promise_from_workings (G.floor origin) (G.place origin) more (G.place sweep.rover) sweep.told.moves sweep.told.looks sweep.told.megacells sweep.told.home law
             v.standing v.looks v.cells w.homed w.underway (λ f. absurd (both_ways _ f e)) h;
         moves = st.moves;
         looks = st.looks;
@@ -161,69 +161,69 @@ module _ {R A : Type 0} (G : Ghosts R A) (origin : R) (law : Lawful (G.floor ori
         };
       }
 
-  module _ (after : Sweep R A) (slots slots_after : List (Slot A)) (h : Heading) (q : Place) (far : sweep.home ≡ false) (m : Steps G sweep slots after slots_after h q) (by : ByTable G sweep after h) where
-    moves_are_few : sweep.moves ≤ 4096
-    moves_are_few = at_most_4096_moves (G.floor origin) law (G.place origin) sweep.moves st.workings.underway
+  module _ (after : Sweep R A) (slots slots_after : List (Slot A)) (h : Heading) (q : Place) (far : sweep.told.home ≡ false) (m : Steps G sweep slots after slots_after h q) (by : ByTable G sweep after h) where
+    moves_are_few : sweep.told.moves ≤ 4096
+    moves_are_few = at_most_4096_moves (G.floor origin) law (G.place origin) sweep.told.moves st.workings.underway
 
-    one_more : after.moves ≡ sweep.moves + 1
+    one_more : after.told.moves ≡ sweep.told.moves + 1
     one_more = one_move_more m moves_are_few
 
     decided_leads_there : step (decided_for G sweep).heading (G.place sweep.rover) ≡ q
     decided_leads_there = ap (λ (k : Heading). step k (G.place sweep.rover)) (sym by.heading) ∙ step_is h (G.place sweep.rover) q m.passes.next
 
-    next_enters : visited (G.floor origin) (G.place origin) (sweep.moves + 1) ≡ q ∷ visited (G.floor origin) (G.place origin) sweep.moves
+    next_enters : visited (G.floor origin) (G.place origin) (sweep.told.moves + 1) ≡ q ∷ visited (G.floor origin) (G.place origin) sweep.told.moves
     next_enters =
         let f = G.floor origin in
         let z = G.place origin in
-        let qs = visited f z sweep.moves in
-        one_move_enters f z sweep.moves ∙ ap (λ (x : Place). x ∷ qs)
+        let qs = visited f z sweep.told.moves in
+        one_move_enters f z sweep.told.moves ∙ ap (λ (x : Place). x ∷ qs)
         (ap (λ (k : Move). step k.heading (here z qs)) (sym decided_is_next) ∙ ap (step (decided_for G sweep).heading) (sym st.promise.standing) ∙ decided_leads_there)
 
-    enters_after : visited (G.floor origin) (G.place origin) after.moves ≡ q ∷ visited (G.floor origin) (G.place origin) sweep.moves
+    enters_after : visited (G.floor origin) (G.place origin) after.told.moves ≡ q ∷ visited (G.floor origin) (G.place origin) sweep.told.moves
     enters_after = ap (λ (k : ℕ). visited (G.floor origin) (G.place origin) k) one_more ∙ next_enters
 
-    left_after : After (G.place origin) (visited (G.floor origin) (G.place origin) sweep.moves) sweep.marks.table (exit (G.place sweep.rover)) q (found_for G sweep)
+    left_after : After (G.place origin) (visited (G.floor origin) (G.place origin) sweep.told.moves) sweep.marks.table (exit (G.place sweep.rover)) q (found_for G sweep)
     left_after = rw (← decided_leads_there, st.promise.standing) (move_leaves (G.place origin) _ sweep.marks.table _ _ refl sweep.marks.size st.workings.tells)
 
-    looks_are_few : sweep.looks ≤ 3073
+    looks_are_few : sweep.told.looks ≤ 3073
     looks_are_few = omega (arith, st.promise.few, at_most_1024 _ _ st.promise.cells)
 
-    looked_as_the_tour : bit (decided_for G sweep).looked ≡ bit (move_after (G.floor origin) (G.place origin) sweep.moves).looked
+    looked_as_the_tour : bit (decided_for G sweep).looked ≡ bit (move_after (G.floor origin) (G.place origin) sweep.told.moves).looked
     looked_as_the_tour = ap (λ (k : Move). bit k.looked) decided_is_next
 
-    looks_after : after.looks ≡ sweep.looks + bit (decided_for G sweep).looked
-    looks_after = by.looks ∙ counted_if_plain (decided_for G sweep).looked sweep.looks (omega (arith, looks_are_few))
+    looks_after : after.told.looks ≡ sweep.told.looks + bit (decided_for G sweep).looked
+    looks_after = by.looks ∙ counted_if_plain (decided_for G sweep).looked sweep.told.looks (omega (arith, looks_are_few))
 
-    cells_after : after.megacells ≡ sweep.megacells + bit (is_found (found_for G sweep))
-    cells_after = by.megacells ∙ counted_if_plain (is_found (found_for G sweep)) sweep.megacells (omega (arith, at_most_1024 _ _ st.promise.cells))
+    cells_after : after.told.megacells ≡ sweep.told.megacells + bit (is_found (found_for G sweep))
+    cells_after = by.megacells ∙ counted_if_plain (is_found (found_for G sweep)) sweep.told.megacells (omega (arith, at_most_1024 _ _ st.promise.cells))
 
-    homed_after : after.home ≡ home (G.place origin) (visited (G.floor origin) (G.place origin) after.moves)
+    homed_after : after.told.home ≡ home (G.place origin) (visited (G.floor origin) (G.place origin) after.told.moves)
     unfolding home
     homed_after = m.home ∙ ap (same_square q) st.workings.begun ∙ sym (ap (home (G.place origin)) enters_after)
 
     slots_is : slots_after ≡ set slots (slot_of q) (Some (G.field origin q))
     slots_is = m.charted ∙ ap (λ (fd : Place → A). set slots (slot_of q) (Some (fd q))) st.field
 
-    underway_after : Underway (G.floor origin) (G.place origin) after.moves
-    underway_after = rw one_more (underway_one_more (G.floor origin) law (G.place origin) sweep.moves st.workings.underway (sym st.workings.homed ∙ far))
+    underway_after : Underway (G.floor origin) (G.place origin) after.told.moves
+    underway_after = rw one_more (underway_one_more (G.floor origin) law (G.place origin) sweep.told.moves st.workings.underway (sym st.workings.homed ∙ far))
 
-    due_after : after.moves ≡ asked + 1
+    due_after : after.told.moves ≡ asked + 1
     due_after = omega (arith, one_more, st.workings.due far)
 
-    standing_after : G.place after.rover ≡ here (G.place origin) (visited (G.floor origin) (G.place origin) after.moves)
+    standing_after : G.place after.rover ≡ here (G.place origin) (visited (G.floor origin) (G.place origin) after.told.moves)
     unfolding here
     standing_after = m.place ∙ sym (ap (here (G.place origin)) enters_after)
 
-    promise_after : Promise (G.floor origin) (G.place origin) (asked + 1) (G.place after.rover) after.moves after.looks after.megacells after.home
+    promise_after : Promise (G.floor origin) (G.place origin) (asked + 1) (G.place after.rover) after.told.moves after.told.looks after.told.megacells after.told.home
     promise_after =
         let f = G.floor origin in
         let z = G.place origin in
-        let qs = visited f z sweep.moves in
-        promise_from_workings f z (asked + 1) (G.place after.rover) after.moves after.looks after.megacells after.home law
+        let qs = visited f z sweep.told.moves in
+        promise_from_workings f z (asked + 1) (G.place after.rover) after.told.moves after.told.looks after.told.megacells after.told.home law
         standing_after
-        (looks_after ∙ omega (arith, st.promise.looks, looked_as_the_tour, one_move_looks f z sweep.moves, ap (tour_looks f z) one_more))
-        (subst (λ (x : List Place). Number (λ c. old z x c ≡ true) after.megacells) (sym enters_after)
-        (subst (λ (k : ℕ). Number (λ c. old z (q ∷ qs) c ≡ true) k) (sym cells_after) (left_after.1 sweep.megacells st.promise.cells)))
+        (looks_after ∙ omega (arith, st.promise.looks, looked_as_the_tour, one_move_looks f z sweep.told.moves, ap (tour_looks f z) one_more))
+        (subst (λ (x : List Place). Number (λ c. old z x c ≡ true) after.told.megacells) (sym enters_after)
+        (subst (λ (k : ℕ). Number (λ c. old z (q ∷ qs) c ≡ true) k) (sym cells_after) (left_after.1 sweep.told.megacells st.promise.cells)))
         homed_after
         underway_after
         (λ e. due_after)
@@ -232,7 +232,7 @@ module _ {R A : Type 0} (G : Ghosts R A) (origin : R) (law : Lawful (G.floor ori
     -- a move puts the reading of the entered place into the chart, and leaves the rest of it
     pub move_keeps_chart : Charts G origin sweep slots → Charts G origin after slots_after
     move_keeps_chart ch =
-        let qs = visited (G.floor origin) (G.place origin) sweep.moves in
+        let qs = visited (G.floor origin) (G.place origin) sweep.told.moves in
         record {
           room = omega (arith, ch.room, ap length slots_is, length-set slots (slot_of q) (Some (G.field origin q)));
           charted = λ p i. ap (λ (x : List (Slot A)). slot_at x p) slots_is ∙ charted_after_a_move (G.field origin) slots qs q ch.room ch.charted p (subst (λ (x : List Place). 1 ≤ many (same_square p) x) enters_after i);
@@ -244,15 +244,15 @@ module _ {R A : Type 0} (G : Ghosts R A) (origin : R) (law : Lawful (G.floor ori
     move_keeps_journey =
         let f = G.floor origin in
         let z = G.place origin in
-        let qs = visited f z sweep.moves in
+        let qs = visited f z sweep.told.moves in
         record {
           promise = promise_after;
           moves = record {
-            exact = m.driven ∙ ap counted st.moves.exact ∙ counted_more sweep.moves (G.moves origin) ∙ ap (λ (k : ℕ). counted_by k (G.moves origin)) (sym one_more);
+            exact = m.driven ∙ ap counted st.moves.exact ∙ counted_more sweep.told.moves (G.moves origin) ∙ ap (λ (k : ℕ). counted_by k (G.moves origin)) (sym one_more);
             gained = λ low. m.driven ∙ counted_plain _ (omega (arith, st.moves.gained low, moves_are_few)) ∙ omega (arith, st.moves.gained low, one_more);
           };
           looks = record {
-            exact = by.looked ∙ ap (counted_if (decided_for G sweep).looked) st.looks.exact ∙ counted_if_more (decided_for G sweep).looked sweep.looks (G.looks origin) ∙ ap (λ (k : ℕ). counted_by k (G.looks origin)) (sym looks_after);
+            exact = by.looked ∙ ap (counted_if (decided_for G sweep).looked) st.looks.exact ∙ counted_if_more (decided_for G sweep).looked sweep.told.looks (G.looks origin) ∙ ap (λ (k : ℕ). counted_by k (G.looks origin)) (sym looks_after);
             gained = λ low. by.looked ∙ counted_if_plain (decided_for G sweep).looked (G.looks sweep.rover) (omega (arith, st.looks.gained low, looks_are_few)) ∙ omega (arith, st.looks.gained low, looks_after);
           };
           floor = m.floor ∙ st.floor;
@@ -268,7 +268,7 @@ module _ {R A : Type 0} (G : Ghosts R A) (origin : R) (law : Lawful (G.floor ori
         }
 
     -- and is the next one of the tour
-    pub move_is_next : NextMove (G.floor origin) (G.place origin) sweep.moves h q
+    pub move_is_next : NextMove (G.floor origin) (G.place origin) sweep.told.moves h q
     unfolding here
     move_is_next = record {
       heading = by.heading ∙ ap (λ (k : Move). k.heading) decided_is_next;
@@ -276,15 +276,15 @@ module _ {R A : Type 0} (G : Ghosts R A) (origin : R) (law : Lawful (G.floor ori
     }
 
 -- What an advance promises, by what the table made of it.
-module _ {R A : Type 0} (G : Ghosts R A) (laws : (r : R) → Lawful (G.floor r)) (sweep : Sweep R A) (slots : List (Slot A)) (after : Sweep R A) (slots_after : List (Slot A)) (far : sweep.home ≡ false) where
+module _ {R A : Type 0} (G : Ghosts R A) (laws : (r : R) → Lawful (G.floor r)) (sweep : Sweep R A) (slots : List (Slot A)) (after : Sweep R A) (slots_after : List (Slot A)) (far : sweep.told.home ≡ false) where
   abbrev MadeOrBarred : Result Moved SweepFault → Type 0
   MadeOrBarred r = MatchResult r
       (λ v. Steps G sweep slots after slots_after v.heading v.place × ByTable G sweep after v.heading)
       (λ e. Barred G sweep (decided_for G sweep).heading e × Still G sweep slots after slots_after)
 
   pub advance_keeps_journey : (r : Result Moved SweepFault) → MadeOrBarred r → (origin : R) (asked : ℕ) → Journey G origin asked sweep → Journey G origin (asked + 1) after × MatchResult r
-      (λ v. (sweep.home ≡ false) × NextMove (G.floor origin) (G.place origin) sweep.moves v.heading v.place)
-      (λ e. (sweep.home ≡ true) × (e ≡ Home))
+      (λ v. (sweep.told.home ≡ false) × NextMove (G.floor origin) (G.place origin) sweep.told.moves v.heading v.place)
+      (λ e. (sweep.told.home ≡ true) × (e ≡ Home))
   advance_keeps_journey (Ok v) w origin asked st = (
     move_keeps_journey G origin (laws origin) asked sweep st after slots slots_after v.heading v.place far w.0 w.1,
     (far, move_is_next G origin (laws origin) asked sweep st after slots slots_after v.heading v.place far w.0 w.1),

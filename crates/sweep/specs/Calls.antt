@@ -29,9 +29,9 @@ asking cs bytes = min bytes (wants_all cs)
 -- what moves do to every journey: so many were asked for, and so many made, whose letters stand first in the buffer
 pub record Told {R A : Type 0} (G : Ghosts R A) (sweep after : Sweep R A) (slots slots_after : List (Slot A)) (bytes_after : List ℕ) (wanted made : ℕ) (origin : R) (asked : ℕ) : Type 0 where
   pub journey : Journey G origin (asked + wanted) after
-  pub moves : after.moves ≡ sweep.moves + made
-  pub writes : Letters (G.floor origin) (G.place origin) sweep.moves made bytes_after
-  pub fills : Filled (G.floor origin) (G.field origin) (G.place origin) sweep.moves after.moves slots slots_after
+  pub moves : after.told.moves ≡ sweep.told.moves + made
+  pub writes : Letters (G.floor origin) (G.place origin) sweep.told.moves made bytes_after
+  pub fills : Filled (G.floor origin) (G.field origin) (G.place origin) sweep.told.moves after.told.moves slots slots_after
 
 -- what a call that wants so many moves makes, where it has these bytes for its letters
 pub record Makes {R A : Type 0} (G : Ghosts R A) (sweep : Sweep R A) (slots : List (Slot A)) (bytes : List ℕ) (after : Sweep R A) (slots_after : List (Slot A)) (bytes_after : List ℕ) (made wanted : ℕ) : Type 0 where

@@ -33,17 +33,17 @@ pub record Workings (floor : Floor) (s : Place) (asked n : ℕ) (is_home : Bool)
 
 -- The sweep was started with the rover as it was in `origin`, and the calls so far asked for so many moves.
 pub record Journey {R A : Type 0} (G : Ghosts R A) (origin : R) (asked : ℕ) (sweep : Sweep R A) : Type 0 where
-  pub promise : Promise (G.floor origin) (G.place origin) asked (G.place sweep.rover) sweep.moves sweep.looks sweep.megacells sweep.home
-  pub moves : Counts (G.moves origin) (G.moves sweep.rover) sweep.moves
-  pub looks : Counts (G.looks origin) (G.looks sweep.rover) sweep.looks
+  pub promise : Promise (G.floor origin) (G.place origin) asked (G.place sweep.rover) sweep.told.moves sweep.told.looks sweep.told.megacells sweep.told.home
+  pub moves : Counts (G.moves origin) (G.moves sweep.rover) sweep.told.moves
+  pub looks : Counts (G.looks origin) (G.looks sweep.rover) sweep.told.looks
   -- the rover has its floor and its field still
   pub floor : G.floor sweep.rover ≡ G.floor origin
   pub field : G.field sweep.rover ≡ G.field origin
-  pub workings : Workings (G.floor origin) (G.place origin) asked sweep.moves sweep.home sweep.start sweep.marks.table
+  pub workings : Workings (G.floor origin) (G.place origin) asked sweep.told.moves sweep.told.home sweep.start sweep.marks.table
 
 -- the chart has what the sweep's moves put into it
 abbrev pub Charts : {R A : Type 0} → Ghosts R A → R → Sweep R A → List (Slot A) → Type 0
-Charts G origin sweep slots = OnChart (G.floor origin) (G.field origin) (G.place origin) sweep.moves slots
+Charts G origin sweep slots = OnChart (G.floor origin) (G.field origin) (G.place origin) sweep.told.moves slots
 
 -- the promise when the sweep has ended, over the rover given back and the record
 pub record Ended {R A : Type 0} (G : Ghosts R A) (origin : R) (asked : ℕ) (rover : R) (told : Record) : Type 0 where
@@ -55,7 +55,7 @@ pub record Ended {R A : Type 0} (G : Ghosts R A) (origin : R) (asked : ℕ) (rov
 
 -- the letters in a buffer from byte 0 on are those of the sweep's moves, which are the tour's, in order
 abbrev pub Wrote : {R A : Type 0} → Ghosts R A → R → Sweep R A → List ℕ → Type 0
-Wrote G origin sweep bytes = take sweep.moves bytes ≡ letters (tour (G.floor origin) (G.place origin) sweep.moves)
+Wrote G origin sweep bytes = take sweep.told.moves bytes ≡ letters (tour (G.floor origin) (G.place origin) sweep.told.moves)
 
 -- the whole promise: of a sweep, of the chart on which all its calls were made, and of the buffer in which all its letters stand
 pub record Story {R A : Type 0} (G : Ghosts R A) (origin : R) (asked : ℕ) (sweep : Sweep R A) (slots : List (Slot A)) (bytes : List ℕ) : Type 0 where

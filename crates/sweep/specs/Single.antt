@@ -27,10 +27,10 @@ pub record Begun {R A : Type 0} (G : Ghosts R A) (rover : R) (sweep : Sweep R A)
   pub owns : sweep.rover ≡ rover
   pub start : sweep.start ≡ G.place rover
   pub tells : (m : Megacell) → Says (G.place rover) [] m (mark_at sweep.marks.table m)
-  pub moves : sweep.moves ≡ 0
-  pub looks : sweep.looks ≡ 0
-  pub megacells : sweep.megacells ≡ 1
-  pub home : sweep.home ≡ false
+  pub moves : sweep.told.moves ≡ 0
+  pub looks : sweep.told.looks ≡ 0
+  pub megacells : sweep.told.megacells ≡ 1
+  pub home : sweep.told.home ≡ false
 
 -- one step, made and charted: by the heading h to the place q, whose slot alone is written
 pub record Steps {R A : Type 0} (G : Ghosts R A) (sweep : Sweep R A) (slots : List (Slot A)) (after : Sweep R A) (slots_after : List (Slot A)) (h : Heading) (q : Place) : Type 0 where
@@ -40,8 +40,8 @@ pub record Steps {R A : Type 0} (G : Ghosts R A) (sweep : Sweep R A) (slots : Li
   pub floor : G.floor after.rover ≡ G.floor sweep.rover
   pub field : G.field after.rover ≡ G.field sweep.rover
   pub charted : slots_after ≡ slice_set slots (slot_of q) (Some (G.field sweep.rover q))
-  pub moves : after.moves ≡ counted sweep.moves
-  pub home : after.home ≡ same_square q sweep.start
+  pub moves : after.told.moves ≡ counted sweep.told.moves
+  pub home : after.told.home ≡ same_square q sweep.start
   pub start : after.start ≡ sweep.start
 
 -- nothing changed: the five things that the rover means, the sweep and the chart
@@ -54,10 +54,10 @@ pub record Still {R A : Type 0} (G : Ghosts R A) (sweep : Sweep R A) (slots : Li
   pub chart : slots_after ≡ slots
   pub start : after.start ≡ sweep.start
   pub marks : after.marks ≡ sweep.marks
-  pub moves : after.moves ≡ sweep.moves
-  pub looks : after.looks ≡ sweep.looks
-  pub megacells : after.megacells ≡ sweep.megacells
-  pub home : after.home ≡ sweep.home
+  pub moves : after.told.moves ≡ sweep.told.moves
+  pub looks : after.told.looks ≡ sweep.told.looks
+  pub megacells : after.told.megacells ≡ sweep.told.megacells
+  pub home : after.told.home ≡ sweep.told.home
 
 -- the rover refuses the step at this heading
 pub record Barred {R A : Type 0} (G : Ghosts R A) (sweep : Sweep R A) (h : Heading) (e : SweepFault) : Type 0 where
@@ -68,8 +68,8 @@ pub record Barred {R A : Type 0} (G : Ghosts R A) (sweep : Sweep R A) (h : Headi
 -- why an advance is refused: 13, the slots, so many, are too few; else 14, the sweep is home; else 15, the rover refuses its step
 abbrev pub Refuses : {R A : Type 0} → Ghosts R A → Sweep R A → ℕ → SweepFault → Type 0
 Refuses G sweep slots (Chart e) = TooFew slots e
-Refuses G sweep slots Home = (4096 ≤ slots) × (sweep.home ≡ true) × (told Home ≡ refused 14 SweepLayer 0)
-Refuses G sweep slots (Rover e) = (4096 ≤ slots) × (sweep.home ≡ false) × ((h : Heading) × Barred G sweep h (Rover e))
+Refuses G sweep slots Home = (4096 ≤ slots) × (sweep.told.home ≡ true) × (told Home ≡ refused 14 SweepLayer 0)
+Refuses G sweep slots (Rover e) = (4096 ≤ slots) × (sweep.told.home ≡ false) × ((h : Heading) × Barred G sweep h (Rover e))
 
 -- a run of n moves: each counted once, and no byte of the buffer written but the first n
 pub record Runs {R A : Type 0} (G : Ghosts R A) (sweep : Sweep R A) (slots : List (Slot A)) (tour : List ℕ) (after : Sweep R A) (slots_after : List (Slot A)) (tour_after : List ℕ) (n : ℕ) : Type 0 where
@@ -80,7 +80,7 @@ pub record Runs {R A : Type 0} (G : Ghosts R A) (sweep : Sweep R A) (slots : Lis
   pub floor : G.floor after.rover ≡ G.floor sweep.rover
   pub field : G.field after.rover ≡ G.field sweep.rover
   pub start : after.start ≡ sweep.start
-  pub moves : after.moves ≡ counted_by n sweep.moves
+  pub moves : after.told.moves ≡ counted_by n sweep.told.moves
   pub driven : G.moves after.rover ≡ counted_by n (G.moves sweep.rover)
 
 -- why a run is refused: 13, the slots are too few, and nothing changed; or the rover refuses a step after some moves, which it never does in a sweep that was started
@@ -88,7 +88,7 @@ abbrev pub RunRefuses : {R A : Type 0} → Ghosts R A → Sweep R A → List (Sl
 RunRefuses G sweep slots tour after slots_after tour_after (Chart e) = TooFew (length slots) e × Still G sweep slots after slots_after × (tour_after ≡ tour)
 RunRefuses G sweep slots tour after slots_after tour_after Home = ⊥
 RunRefuses G sweep slots tour after slots_after tour_after (Rover e) = ((n : ℕ) × (n < length tour) × Runs G sweep slots tour after slots_after tour_after n)
-    × (after.home ≡ false) × ((h : Heading) × Barred G after h (Rover e))
+    × (after.told.home ≡ false) × ((h : Heading) × Barred G after h (Rover e))
 
 -- The rest of this file is about the private table, for the proof.
 
@@ -100,32 +100,32 @@ counted_if false n = n
 pub record Aside {R A : Type 0} (G : Ghosts R A) (sweep after : Sweep R A) : Type 0 where
   pub looked : G.looks after.rover ≡ G.looks sweep.rover
   pub marks : after.marks ≡ sweep.marks
-  pub looks : after.looks ≡ sweep.looks
-  pub megacells : after.megacells ≡ sweep.megacells
+  pub looks : after.told.looks ≡ sweep.told.looks
+  pub megacells : after.told.megacells ≡ sweep.told.megacells
 
 -- a look at a heading, made by the rover and counted by the sweep
 pub record Looks {R A : Type 0} (G : Ghosts R A) (sweep after : Sweep R A) : Type 0 where
   pub looked : G.looks after.rover ≡ counted (G.looks sweep.rover)
-  pub looks : after.looks ≡ counted sweep.looks
+  pub looks : after.told.looks ≡ counted sweep.told.looks
   pub place : G.place after.rover ≡ G.place sweep.rover
   pub driven : G.moves after.rover ≡ G.moves sweep.rover
   pub floor : G.floor after.rover ≡ G.floor sweep.rover
   pub field : G.field after.rover ≡ G.field sweep.rover
   pub start : after.start ≡ sweep.start
   pub marks : after.marks ≡ sweep.marks
-  pub moves : after.moves ≡ sweep.moves
-  pub megacells : after.megacells ≡ sweep.megacells
-  pub home : after.home ≡ sweep.home
+  pub moves : after.told.moves ≡ sweep.told.moves
+  pub megacells : after.told.megacells ≡ sweep.told.megacells
+  pub home : after.told.home ≡ sweep.told.home
 
 -- a megacell becomes old, its parent in this heading
 pub record Finds {R A : Type 0} (sweep : Sweep R A) (y : Megacell) (back : Heading) (after : Sweep R A) : Type 0 where
   pub marks : after.marks.table ≡ slice_set sweep.marks.table (number_of y) (Under back)
-  pub megacells : after.megacells ≡ counted sweep.megacells
+  pub megacells : after.told.megacells ≡ counted sweep.told.megacells
   pub rover : after.rover ≡ sweep.rover
   pub start : after.start ≡ sweep.start
-  pub moves : after.moves ≡ sweep.moves
-  pub looks : after.looks ≡ sweep.looks
-  pub home : after.home ≡ sweep.home
+  pub moves : after.told.moves ≡ sweep.told.moves
+  pub looks : after.told.looks ≡ sweep.told.looks
+  pub home : after.told.home ≡ sweep.told.home
 
 abbrev pub chosen : {R A : Type 0} → Ghosts R A → Sweep R A → Choice
 chosen G sweep = choice sweep.marks.table (G.place sweep.rover)
@@ -144,6 +144,6 @@ found_for G sweep = found (chosen G sweep) (opens G sweep)
 pub record ByTable {R A : Type 0} (G : Ghosts R A) (sweep after : Sweep R A) (h : Heading) : Type 0 where
   pub heading : h ≡ (decided_for G sweep).heading
   pub looked : G.looks after.rover ≡ counted_if (decided_for G sweep).looked (G.looks sweep.rover)
-  pub looks : after.looks ≡ counted_if (decided_for G sweep).looked sweep.looks
+  pub looks : after.told.looks ≡ counted_if (decided_for G sweep).looked sweep.told.looks
   pub marks : after.marks.table ≡ marked (found_for G sweep) (exit (G.place sweep.rover)) sweep.marks.table
-  pub megacells : after.megacells ≡ counted_if (is_found (found_for G sweep)) sweep.megacells
+  pub megacells : after.told.megacells ≡ counted_if (is_found (found_for G sweep)) sweep.told.megacells

@@ -81,9 +81,9 @@ pub fn make_calls<R: Rover>(
     tour: &mut [u8],
 ) -> Sweep<R>
     ensures promise { Blank slots.old → Story R.Rover rover (asking calls.now (length tour.old)) result slots.new tour.new }
-    ensures anyway { 4096 ≤ length slots.old → Journey R.Rover rover (asking calls.now (length tour.old)) result × Wrote R.Rover rover result tour.new × Filled (R.Rover.floor rover) (R.Rover.field rover) (R.Rover.place rover) 0 result.moves slots.old slots.new }
+    ensures anyway { 4096 ≤ length slots.old → Journey R.Rover rover (asking calls.now (length tour.old)) result × Wrote R.Rover rover result tour.new × Filled (R.Rover.floor rover) (R.Rover.field rover) (R.Rover.place rover) 0 result.told.moves slots.old slots.new }
     ensures short { length slots.old < 4096 → Journey R.Rover rover 0 result × (slots.new ≡ slots.old) × (tour.new ≡ tour.old) }
-    ensures rest { SameFrom result.moves tour.old tour.new }
+    ensures rest { SameFrom result.told.moves tour.old tour.new }
     ensures beyond { SameBeyond slots.old slots.new }
 {
     let mut sweep = Sweep::start(rover);

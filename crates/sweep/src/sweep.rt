@@ -8,10 +8,7 @@ pub struct Sweep<R: Rover> {
     rover: R,
     start: Place,
     marks: Marks,
-    moves: u32,
-    looks: u32,
-    megacells: u32,
-    home: bool,
+    told: Record,
 }
 
 /// A move that was made: its heading, and the place that it entered.

@@ -18,7 +18,7 @@ mod tests {
     use std::alloc::Global;
     use std::process::Abort;
     use std::test::Fail;
-        use sweep::call::Call;
+    use sweep::call::Call;
     use sweep::calls::make_calls;
     use sweep::sweep::{Record, Sweep};
 

@@ -31,8 +31,8 @@ impl<R: Rover> Sweep<R> {
         self.rover.step(heading)?;
         let place = self.rover.place();
         put(slots, place, self.rover.read())?;
-        self.moves = self.moves.saturating_add(1);
-        self.home = place == self.start;
+        self.told.moves = self.told.moves.saturating_add(1);
+        self.told.home = place == self.start;
         Ok(Moved { heading, place })
     }
 
@@ -41,7 +41,7 @@ impl<R: Rover> Sweep<R> {
         ensures answer { result ≡ R.Rover.floor self.old.rover (megacell_of (R.Rover.place self.old.rover)) heading }
         ensures does { Looks R.Rover self.old self.new }
     {
-        self.looks = self.looks.saturating_add(1);
+        self.told.looks = self.told.looks.saturating_add(1);
         self.rover.look(heading)
     }
 
@@ -50,7 +50,7 @@ impl<R: Rover> Sweep<R> {
         ensures { Finds self.old megacell back self.new }
     {
         self.marks.set(megacell, Mark::Under(back));
-        self.megacells = self.megacells.saturating_add(1);
+        self.told.megacells = self.told.megacells.saturating_add(1);
     }
 
     /// Makes the next move by the three rules.
@@ -79,9 +79,9 @@ impl<R: Rover> Sweep<R> {
 
     /// Refuses a sweep that is home already.
     fn need_underway(&self) -> Result<(), SweepFault>
-        ensures { MatchResult result (λ _. self.now.home ≡ false) (λ e. (self.now.home ≡ true) × (e ≡ Home)) }
+        ensures { MatchResult result (λ _. self.now.told.home ≡ false) (λ e. (self.now.told.home ≡ true) × (e ≡ Home)) }
     {
-        if self.home {
+        if self.told.home {
             return Err(SweepFault::Home);
         }
         Ok(())
@@ -93,13 +93,13 @@ impl<R: Rover> Sweep<R> {
     /// A sweep that was started is never refused by its rover.
     pub fn advance(&mut self, slots: &mut [Slot<R::Reading>]) -> Result<Moved, SweepFault>
         ensures done { MatchResult result
-            (λ v. (4096 ≤ length slots.old) × (self.old.home ≡ false) × Steps R.Rover self.old slots.old self.new slots.new v.heading v.place)
+            (λ v. (4096 ≤ length slots.old) × (self.old.told.home ≡ false) × Steps R.Rover self.old slots.old self.new slots.new v.heading v.place)
             (λ e. Refuses R.Rover self.old (length slots.old) e × Still R.Rover self.old slots.old self.new slots.new) }
         ensures law { (origin : R) (asked : ℕ) → 4096 ≤ length slots.old → Journey R.Rover origin asked self.old →
             Journey R.Rover origin (asked + 1) self.new
             × MatchResult result
-            (λ v. (self.old.home ≡ false) × NextMove (R.Rover.floor origin) (R.Rover.place origin) self.old.moves v.heading v.place)
-            (λ e. (self.old.home ≡ true) × (e ≡ Home)) }
+            (λ v. (self.old.told.home ≡ false) × NextMove (R.Rover.floor origin) (R.Rover.place origin) self.old.told.moves v.heading v.place)
+            (λ e. (self.old.told.home ≡ true) × (e ≡ Home)) }
         ensures chart { (origin : R) (asked : ℕ) → Journey R.Rover origin asked self.old → Charts R.Rover origin self.old slots.old → Charts R.Rover origin self.new slots.new }
         ensures short { (origin : R) (asked : ℕ) → length slots.old < 4096 → Journey R.Rover origin asked self.old → Journey R.Rover origin asked self.new }
     {

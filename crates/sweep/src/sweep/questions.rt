@@ -10,33 +10,33 @@ use rover::meaning::Rover;
 impl<R: Rover> Sweep<R> {
     /// The moves made so far.
     pub fn moves(&self) -> u32
-        ensures is { result ≡ self.now.moves }
+        ensures is { result ≡ self.now.told.moves }
         ensures law { (origin : R) (asked : ℕ) → Journey R.Rover origin asked self.now → ((k : ℕ) → Number (Ground (R.Rover.floor origin) (R.Rover.place origin)) k → result ≡ min asked (4 * k)) }
     {
-        self.moves
+        self.told.moves
     }
 
     /// The looks made so far.
     pub fn looks(&self) -> u32
-        ensures is { result ≡ self.now.looks }
-        ensures law { (origin : R) (asked : ℕ) → Journey R.Rover origin asked self.now → result ≡ tour_looks (R.Rover.floor origin) (R.Rover.place origin) self.now.moves }
+        ensures is { result ≡ self.now.told.looks }
+        ensures law { (origin : R) (asked : ℕ) → Journey R.Rover origin asked self.now → result ≡ tour_looks (R.Rover.floor origin) (R.Rover.place origin) self.now.told.moves }
     {
-        self.looks
+        self.told.looks
     }
 
     /// How many megacells are old: the start's, and those with an entered subcell.
     pub fn megacells(&self) -> u32
-        ensures is { result ≡ self.now.megacells }
-        ensures law { (origin : R) (asked : ℕ) → Journey R.Rover origin asked self.now → Number (λ m. old (R.Rover.place origin) (visited (R.Rover.floor origin) (R.Rover.place origin) self.now.moves) m ≡ true) result }
+        ensures is { result ≡ self.now.told.megacells }
+        ensures law { (origin : R) (asked : ℕ) → Journey R.Rover origin asked self.now → Number (λ m. old (R.Rover.place origin) (visited (R.Rover.floor origin) (R.Rover.place origin) self.now.told.moves) m ≡ true) result }
     {
-        self.megacells
+        self.told.megacells
     }
 
     /// Whether the sweep is home: it has entered every subcell of its ground, the start as the last.
     pub fn home(&self) -> bool
-        ensures is { result ≡ self.now.home }
-        ensures law { (origin : R) (asked : ℕ) → Journey R.Rover origin asked self.now → (result ≡ true → Whole (R.Rover.floor origin) (R.Rover.place origin) self.now.moves) × (Whole (R.Rover.floor origin) (R.Rover.place origin) self.now.moves → result ≡ true) }
+        ensures is { result ≡ self.now.told.home }
+        ensures law { (origin : R) (asked : ℕ) → Journey R.Rover origin asked self.now → (result ≡ true → Whole (R.Rover.floor origin) (R.Rover.place origin) self.now.told.moves) × (Whole (R.Rover.floor origin) (R.Rover.place origin) self.now.told.moves → result ≡ true) }
     {
-        self.home
+        self.told.home
     }
 }

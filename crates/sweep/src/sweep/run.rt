@@ -21,22 +21,22 @@ impl<R: Rover> Sweep<R> {
     ) -> Result<Ran, SweepFault>
         ensures done { MatchResult result
             (λ v. Runs R.Rover self.old slots.old tour.old self.new slots.new tour.new v.letters
-            × (v.home ≡ self.new.home)
+            × (v.home ≡ self.new.told.home)
             × ((v.letters ≡ length tour.old) ⊎ (v.home ≡ true))
-            × (self.old.home ≡ true → (v.letters ≡ 0) × Still R.Rover self.old slots.old self.new slots.new))
+            × (self.old.told.home ≡ true → (v.letters ≡ 0) × Still R.Rover self.old slots.old self.new slots.new))
             (λ e. RunRefuses R.Rover self.old slots.old tour.old self.new slots.new tour.new e) }
         ensures law { (origin : R) (asked : ℕ) → 4096 ≤ length slots.old → Journey R.Rover origin asked self.old →
             Journey R.Rover origin (asked + length tour.old) self.new
             × MatchResult result
-            (λ v. (self.new.moves ≡ self.old.moves + v.letters) × Letters (R.Rover.floor origin) (R.Rover.place origin) self.old.moves v.letters tour.new
-            × Filled (R.Rover.floor origin) (R.Rover.field origin) (R.Rover.place origin) self.old.moves self.new.moves slots.old slots.new)
+            (λ v. (self.new.told.moves ≡ self.old.told.moves + v.letters) × Letters (R.Rover.floor origin) (R.Rover.place origin) self.old.told.moves v.letters tour.new
+            × Filled (R.Rover.floor origin) (R.Rover.field origin) (R.Rover.place origin) self.old.told.moves self.new.told.moves slots.old slots.new)
             (λ e. ⊥) }
         ensures chart { (origin : R) (asked : ℕ) → Journey R.Rover origin asked self.old → Charts R.Rover origin self.old slots.old → Charts R.Rover origin self.new slots.new }
         ensures short { (origin : R) (asked : ℕ) → length slots.old < 4096 → Journey R.Rover origin asked self.old → Journey R.Rover origin asked self.new }
     {
         need(slots)?;
         for (letters, byte) in tour.iter_mut().enumerate() {
-            if self.home {
+            if self.told.home {
                 return Ok(Ran {
                     letters,
                     home: true,
@@ -47,7 +47,7 @@ impl<R: Rover> Sweep<R> {
         }
         Ok(Ran {
             letters: tour.len(),
-            home: self.home,
+            home: self.told.home,
         })
     }
 }

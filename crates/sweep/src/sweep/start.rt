@@ -19,16 +19,18 @@ impl<R: Rover> Sweep<R> {
             rover,
             start,
             marks: Marks::fresh(start),
-            moves: 0,
-            looks: 0,
-            megacells: 1,
-            home: false,
+            told: Record {
+                moves: 0,
+                looks: 0,
+                megacells: 1,
+                home: false,
+            },
         }
     }
 
     /// Gives the rover back, with a record of the four questions.
     pub fn end(self) -> (R, Record)
-        ensures is { (result.0 ≡ self.rover) × (result.1.moves ≡ self.moves) × (result.1.looks ≡ self.looks) × (result.1.megacells ≡ self.megacells) × (result.1.home ≡ self.home) }
+        ensures is { (result.0 ≡ self.rover) × (result.1 ≡ self.told) }
         ensures law { (origin : R) (asked : ℕ) → Journey R.Rover origin asked self → Ended R.Rover origin asked result.0 result.1 }
     {
         // Each field is named: a sweep is not `Drop`, so that the language takes no `..` here.
@@ -36,17 +38,8 @@ impl<R: Rover> Sweep<R> {
             rover,
             start: _,
             marks: _,
-            moves,
-            looks,
-            megacells,
-            home,
+            told,
         } = self;
-        let record = Record {
-            moves,
-            looks,
-            megacells,
-            home,
-        };
-        (rover, record)
+        (rover, told)
     }
 }

@@ -5,7 +5,7 @@ use Rattle.sweep.proofs.sweep.Sweep.start.Goals as goal
 
 pub returns : goal.returns
 returns g c =
-    let b : Begun g.R.Rover c.args.rover (record { rover = c.args.rover; start = c.place-start.result; marks = c.fresh.result; moves = 0; looks = 0; megacells = 1; home = false }) =
+    let b : Begun g.R.Rover c.args.rover (record { rover = c.args.rover; start = c.place-start.result; marks = c.fresh.result; told = record { moves = 0; looks = 0; megacells = 1; home = false } }) =
     record { owns = refl; start = c.place-start.ensures; tells = rw c.place-start.ensures at c.fresh.ensures; moves = refl; looks = refl; megacells = refl; home = refl } in
     record {
       begun = b;
