@@ -50,6 +50,8 @@ impl Heading {
         }
     }
 
+    // Methods, and no `From`: a heading has two bytes, its number and its letter.
+
     /// 0 for north, 1 for east, 2 for south, 3 for west.
     #[tactic(auto, unfolding(crate::specs::Headings::heading_number))]
     pub fn number(self) -> u8

@@ -6,4 +6,5 @@ pub mod heading;
 pub mod megacell;
 pub mod place;
 pub mod square;
+pub mod table;
 pub mod theorems;

@@ -1,4 +1,5 @@
 /// What a rover on a drawn floor reads at a place.
+// An enum of its own, and no `Option<f32>`: a rule of the project.
 #[derive(Clone, Copy, Debug)]
 pub enum Light {
     /// No lamp stands over the place.

@@ -3,7 +3,7 @@ use Rattle.std.proofs.Common.{◌≡◌, ℕ, ◌<◌, true, cond, ltb, List, No
 use Rattle.std.specs.Fmt.{digits}
 use Rattle.firsts.specs.First.{first}
 use Rattle.firsts.proofs.Firsts.{first_here}
-use Rattle.board.specs.Squares.{Place, placed, celled, same_square, squared}
+use Rattle.board.specs.Squares.{Place, same_square, squared}
 use Rattle.board.specs.Counting.{bit, many}
 use Rattle.board.specs.Corners.{exit_of, corner_by, corner_of, exit, subcell}
 use Rattle.board.specs.Floors.{Floor}

@@ -5,43 +5,43 @@ ghost use Rattle.log_record.specs.declared.faults.LogFault.TheVariants.{SecondRe
 
 use board::megacell::Megacell;
 use board::place::Place;
+use board::table::Table;
 use log_record::faults::LogFault;
 
 /// Which megacells a chain has told of, by their numbers.
 #[derive(Drop)]
 pub(crate) struct Told {
     // a table and no set, which would allocate: the reader cannot want for memory
-    seen: [bool; 1024],
+    seen: Table<bool>,
 }
 
 impl Told {
     /// None of them.
     pub(crate) fn none() -> Told
-        ensures { result.seen ≡ replicate 1024 false }
+        ensures { result.seen.entries ≡ replicate 1024 false }
     {
         Told {
-            seen: [false; 1024],
+            seen: Table::of([false; 1024]),
         }
     }
 
     /// Marks the megacell of record `index` as told of; refused where it was.
     pub(crate) fn mark(&mut self, megacell: Megacell, index: u16) -> Result<(), LogFault>
         ensures { MatchResult result
-            (λ _. (slice_index_or self.old.seen (number_of megacell) false ≡ false) × (self.new.seen ≡ slice_set self.old.seen (number_of megacell) true))
-            (λ e. (slice_index_or self.old.seen (number_of megacell) false ≡ true) × (self.new.seen ≡ self.old.seen) × (e ≡ SecondRecord index)) }
+            (λ _. (slice_index_or self.old.seen.entries (number_of megacell) false ≡ false) × (self.new.seen.entries ≡ slice_set self.old.seen.entries (number_of megacell) true))
+            (λ e. (slice_index_or self.old.seen.entries (number_of megacell) false ≡ true) × (self.new.seen.entries ≡ self.old.seen.entries) × (e ≡ SecondRecord index)) }
     {
-        let cell = megacell.number();
-        if self.seen[cell] {
+        if self.seen.get(megacell) {
             return Err(LogFault::SecondRecord { record: index });
         }
-        self.seen[cell] = true;
+        self.seen.set(megacell, true);
         Ok(())
     }
 
     /// Whether the megacell that a place lies in was told of.
     pub(crate) fn has(&self, place: Place) -> bool
-        ensures { result ≡ slice_index_or self.now.seen (number_of (megacell_of place)) false }
+        ensures { result ≡ slice_index_or self.now.seen.entries (number_of (megacell_of place)) false }
     {
-        self.seen[place.megacell().number()]
+        self.seen.get(place.megacell())
     }
 }

@@ -99,7 +99,7 @@ lies m s r e =
       each = each m;
     }
 
-pub lies_on : (m : List ℕ) (s : ℕ) (d : Drawing) → d.cells ≡ cells_of m (width m) → d.start ≡ megacell_at (s / (width m + 1)) (s % (width m + 1)) → refusal m ≡ None → first_start m ≡ Some s → LiesOn m d
+pub lies_on : (m : List ℕ) (s : ℕ) (d : Drawing) → d.cells.entries ≡ cells_of m (width m) → d.start ≡ megacell_at (s / (width m + 1)) (s % (width m + 1)) → refusal m ≡ None → first_start m ≡ Some s → LiesOn m d
 lies_on m s d p q r f =
-    let same : drawn m s ≡ d = λ i. record { cells = sym p i; start = sym q i } in
+    let same : drawn m s ≡ d = λ i. record { cells = record { entries = sym p i }; start = sym q i } in
     subst (LiesOn m) same (lies m s r f)

@@ -45,7 +45,7 @@ refusal m = length_fault m or_if byte_fault m or_if row_fault m or_if extra_faul
 
 -- what an accepted map draws whose S stands at offset s
 abbrev pub drawn : List ℕ → ℕ → Drawing
-drawn m s = record { cells = cells_of m (width m); start = megacell_at (s / (width m + 1)) (s % (width m + 1)) }
+drawn m s = record { cells = record { entries = cells_of m (width m) }; start = megacell_at (s / (width m + 1)) (s % (width m + 1)) }
 
 abbrev pub answered : List ℕ → Option MapFault → Result Drawing MapFault
 answered m (Some fault) = Err fault

@@ -43,7 +43,7 @@ cells_of m w = tabled (λ i. cell_in m w (i / 32) (i % 32)) 1024
 
 -- what a drawing has at a megacell
 abbrev pub cell_at : Drawing → Megacell → Cell
-cell_at d m = slice_index_or d.cells (number_of m) Blocked
+cell_at d m = slice_index_or d.cells.entries (number_of m) Blocked
 
 pub north_west : Megacell
 north_west = record { row = 0; column = 0; rows = omega arith; columns = omega arith }

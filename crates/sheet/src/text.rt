@@ -2,6 +2,9 @@ ghost use Rattle.std.specs.Prelude.{◌≡◌, ◌≤◌, [], ◌∷◌, length,
 ghost use Rattle.sheet.specs.Sheets.{spaced};
 ghost use Rattle.sheet.specs.Writing.{written, Room, Put};
 
+// Each writer is lent its part of the buffer, a rule of the project, and says what room it needs: a struct over the part
+// would hold the same two facts at each call.
+
 /// A text at the front of the part lent: its length.
 pub(crate) fn put_text(out: &mut [u8], text: &[u8]) -> usize
     requires { Room out.old text.now }

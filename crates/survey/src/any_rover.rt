@@ -8,6 +8,8 @@ use chart::slots;
 use rover::meaning::Rover;
 use sheet::layout::lay_out;
 
+// Chart, tour and sheet stay three parameters: a rule of the project, a chart is kept in no struct.
+
 /// Surveys the floor that a rover stands on: empties the chart, makes one run, and lays out its sheet. It answers the
 /// sheet's length.
 ///

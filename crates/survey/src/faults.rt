@@ -33,6 +33,7 @@ pub enum SurveyFault {
     Sheet(SheetFault),
 }
 
+// By hand: what a derive writes has no contract, and the contracts name the fault that `?` makes.
 impl From<FrameFault> for SurveyFault {
     ghost from_gives = { λ e r. r ≡ Frame e };
 

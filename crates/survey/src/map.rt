@@ -11,6 +11,9 @@ use frame::numbered::Numbered;
 use framed::Framed;
 use map_format::drawing::Drawing;
 
+// The frame is a number: a rule of the project. The survey of a log is beside this one, and no generic of both is plainer:
+// what they share is `survey_rover`, and what is left differs in its types, its bytes and its refusals.
+
 /// Surveys the floor that a map draws, seen through the frame of a number. It answers the sheet's length.
 ///
 /// It checks the frame, then the map, then the chart, and after the sweep the sheet's buffer.

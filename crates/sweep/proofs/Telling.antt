@@ -129,9 +129,9 @@ module _ {R A : Type 0} (G : Ghosts R A) (origin : R) (law : Lawful (G.floor ori
       let f = G.floor origin in
       let z = G.place origin in
       let qs = visited f z sweep.told.moves in
-      ap (λ (p : Place). decided (choice sweep.marks.table p) (exit p) (G.floor sweep.rover (megacell_of p) (exit p))) st.promise.standing
-      ∙ ap (λ (fl : Floor). decided (choice sweep.marks.table (here z qs)) (exit (here z qs)) (fl (megacell_of (here z qs)) (exit (here z qs)))) st.floor
-      ∙ decided_by_the_rules f z qs sweep.marks.table st.workings.tells
+      ap (λ (p : Place). decided (choice sweep.marks.table.entries p) (exit p) (G.floor sweep.rover (megacell_of p) (exit p))) st.promise.standing
+      ∙ ap (λ (fl : Floor). decided (choice sweep.marks.table.entries (here z qs)) (exit (here z qs)) (fl (megacell_of (here z qs)) (exit (here z qs)))) st.floor
+      ∙ decided_by_the_rules f z qs sweep.marks.table.entries st.workings.tells
 
   -- the step that the rules ask for is not refused
   pub next_is_never_barred : sweep.told.home ≡ false → Blocked (G.floor sweep.rover) (G.place sweep.rover) (decided_for G sweep).heading → ⊥
@@ -182,8 +182,8 @@ module _ {R A : Type 0} (G : Ghosts R A) (origin : R) (law : Lawful (G.floor ori
     enters_after : visited (G.floor origin) (G.place origin) after.told.moves ≡ q ∷ visited (G.floor origin) (G.place origin) sweep.told.moves
     enters_after = ap (λ (k : ℕ). visited (G.floor origin) (G.place origin) k) one_more ∙ next_enters
 
-    left_after : After (G.place origin) (visited (G.floor origin) (G.place origin) sweep.told.moves) sweep.marks.table (exit (G.place sweep.rover)) q (found_for G sweep)
-    left_after = rw (← decided_leads_there, st.promise.standing) (move_leaves (G.place origin) _ sweep.marks.table _ _ refl sweep.marks.size st.workings.tells)
+    left_after : After (G.place origin) (visited (G.floor origin) (G.place origin) sweep.told.moves) sweep.marks.table.entries (exit (G.place sweep.rover)) q (found_for G sweep)
+    left_after = rw (← decided_leads_there, st.promise.standing) (move_leaves (G.place origin) _ sweep.marks.table.entries _ _ refl sweep.marks.size st.workings.tells)
 
     looks_are_few : sweep.told.looks ≤ 3073
     looks_are_few = omega (arith, st.promise.few, at_most_1024 _ _ st.promise.cells)
@@ -259,7 +259,7 @@ module _ {R A : Type 0} (G : Ghosts R A) (origin : R) (law : Lawful (G.floor ori
           field = m.field ∙ st.field;
           workings = record {
             begun = m.start ∙ st.workings.begun;
-            tells = subst (λ (x : List Place). Tells z x after.marks.table) (sym enters_after) (subst (λ (k : List Mark). Tells z (q ∷ qs) k) (sym by.marks) left_after.0);
+            tells = subst (λ (x : List Place). Tells z x after.marks.table.entries) (sym enters_after) (subst (λ (k : List Mark). Tells z (q ∷ qs) k) (sym by.marks) left_after.0);
             homed = homed_after;
             underway = underway_after;
             due = λ e. due_after;

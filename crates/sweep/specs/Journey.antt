@@ -39,7 +39,7 @@ pub record Journey {R A : Type 0} (G : Ghosts R A) (origin : R) (asked : ℕ) (s
   -- the rover has its floor and its field still
   pub floor : G.floor sweep.rover ≡ G.floor origin
   pub field : G.field sweep.rover ≡ G.field origin
-  pub workings : Workings (G.floor origin) (G.place origin) asked sweep.told.moves sweep.told.home sweep.start sweep.marks.table
+  pub workings : Workings (G.floor origin) (G.place origin) asked sweep.told.moves sweep.told.home sweep.start sweep.marks.table.entries
 
 -- the chart has what the sweep's moves put into it
 abbrev pub Charts : {R A : Type 0} → Ghosts R A → R → Sweep R A → List (Slot A) → Type 0

@@ -26,7 +26,7 @@ use Rattle.sweep.specs.Table.{choice, decided, found, is_found, marked, mark_at,
 pub record Begun {R A : Type 0} (G : Ghosts R A) (rover : R) (sweep : Sweep R A) : Type 0 where
   pub owns : sweep.rover ≡ rover
   pub start : sweep.start ≡ G.place rover
-  pub tells : (m : Megacell) → Says (G.place rover) [] m (mark_at sweep.marks.table m)
+  pub tells : (m : Megacell) → Says (G.place rover) [] m (mark_at sweep.marks.table.entries m)
   pub moves : sweep.told.moves ≡ 0
   pub looks : sweep.told.looks ≡ 0
   pub megacells : sweep.told.megacells ≡ 1
@@ -119,7 +119,7 @@ pub record Looks {R A : Type 0} (G : Ghosts R A) (sweep after : Sweep R A) : Typ
 
 -- a megacell becomes old, its parent in this heading
 pub record Finds {R A : Type 0} (sweep : Sweep R A) (y : Megacell) (back : Heading) (after : Sweep R A) : Type 0 where
-  pub marks : after.marks.table ≡ slice_set sweep.marks.table (number_of y) (Under back)
+  pub marks : after.marks.table.entries ≡ slice_set sweep.marks.table.entries (number_of y) (Under back)
   pub megacells : after.told.megacells ≡ counted sweep.told.megacells
   pub rover : after.rover ≡ sweep.rover
   pub start : after.start ≡ sweep.start
@@ -128,7 +128,7 @@ pub record Finds {R A : Type 0} (sweep : Sweep R A) (y : Megacell) (back : Headi
   pub home : after.told.home ≡ sweep.told.home
 
 abbrev pub chosen : {R A : Type 0} → Ghosts R A → Sweep R A → Choice
-chosen G sweep = choice sweep.marks.table (G.place sweep.rover)
+chosen G sweep = choice sweep.marks.table.entries (G.place sweep.rover)
 
 -- whether the side at the rover's exit is open
 abbrev pub opens : {R A : Type 0} → Ghosts R A → Sweep R A → Bool
@@ -145,5 +145,5 @@ pub record ByTable {R A : Type 0} (G : Ghosts R A) (sweep after : Sweep R A) (h 
   pub heading : h ≡ (decided_for G sweep).heading
   pub looked : G.looks after.rover ≡ counted_if (decided_for G sweep).looked (G.looks sweep.rover)
   pub looks : after.told.looks ≡ counted_if (decided_for G sweep).looked sweep.told.looks
-  pub marks : after.marks.table ≡ marked (found_for G sweep) (exit (G.place sweep.rover)) sweep.marks.table
+  pub marks : after.marks.table.entries ≡ marked (found_for G sweep) (exit (G.place sweep.rover)) sweep.marks.table.entries
   pub megacells : after.told.megacells ≡ counted_if (is_found (found_for G sweep)) sweep.told.megacells

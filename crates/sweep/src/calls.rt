@@ -57,6 +57,7 @@ fn make_call<R: Rover>(
 ) -> usize
     ensures { Makes R.Rover sweep.old slots.old tour.old sweep.new slots.new tour.new result (wants call) }
 {
+    // Data, and no closures: the promise speaks of the list of calls.
     match call {
         Call::Advance => advance_into(sweep, slots, tour),
         Call::Run(bytes) => run_into(sweep, slots, tour, bytes),

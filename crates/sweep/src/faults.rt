@@ -23,6 +23,7 @@ pub enum SweepFault {
     Rover(RoverFault),
 }
 
+// By hand: what a derive writes has no contract, and the contracts name the fault that `?` makes.
 impl From<ChartFault> for SweepFault {
     ghost from_gives = { λ e r. r ≡ Chart e };
 

@@ -6,21 +6,22 @@ use crate::choice::Choice;
 use crate::mark::Mark;
 use board::megacell::Megacell;
 use board::place::Place;
+use board::table::Table;
 
 /// A mark for each of the 1,024 megacells.
 #[derive(Drop)]
 pub struct Marks {
-    table: [Mark; 1024],
-    ghost size: { length table ≡ 1024 },
+    table: Table<Mark>,
+    ghost size: { length table.entries ≡ 1024 },
 }
 
 impl Marks {
     /// The marks of a new sweep: the root where it starts, and nothing known of the others.
     pub(crate) fn fresh(start: Place) -> Marks
-        ensures { (m : Megacell) → Says start [] m (mark_at result.table m) }
+        ensures { (m : Megacell) → Says start [] m (mark_at result.table.entries m) }
     {
         let mut marks = Marks {
-            table: [Mark::New; 1024],
+            table: Table::of([Mark::New; 1024]),
         };
         marks.set(start.megacell(), Mark::Root);
         marks
@@ -28,32 +29,25 @@ impl Marks {
 
     /// Marks a megacell.
     pub(crate) fn set(&mut self, megacell: Megacell, mark: Mark)
-        ensures { self.new.table ≡ slice_set self.old.table (number_of megacell) mark }
+        ensures { self.new.table.entries ≡ slice_set self.old.table.entries (number_of megacell) mark }
     {
-        self.table[megacell.number()] = mark;
-    }
-
-    /// The mark of a megacell.
-    fn of(&self, megacell: Megacell) -> Mark
-        ensures { result ≡ mark_at self.now.table megacell }
-    {
-        self.table[megacell.number()]
+        self.table.set(megacell, mark);
     }
 
     /// What to do at a place, before any look: cross to the parent; turn where the neighbour at the exit is absent
     /// or old; look where it is new.
     pub(crate) fn choose(&self, place: Place) -> Choice
-        ensures { result ≡ choice self.now.table place }
+        ensures { result ≡ choice self.now.table.entries place }
     {
         let own = place.megacell();
         let exit = place.exit();
         match own.beside(exit) {
             None => Choice::Turn,
             Some(other) => {
-                if self.of(own).leads(exit) {
+                if self.table.get(own).leads(exit) {
                     Choice::Cross
                 } else {
-                    self.of(other).look_if_new(other)
+                    self.table.get(other).look_if_new(other)
                 }
             }
         }

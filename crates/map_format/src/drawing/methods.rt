@@ -10,7 +10,7 @@ impl Drawing {
     pub fn cell(&self, megacell: Megacell) -> Cell
         ensures { result ≡ cell_at self.now megacell }
     {
-        self.cells[megacell.number()]
+        self.cells.get(megacell)
     }
 
     /// The megacell of `S`.

@@ -6,6 +6,7 @@ use super::Drawing;
 use crate::bytes::{first_forbidden, first_from};
 use crate::faults::MapFault;
 use crate::rows::Rows;
+use board::table::Table;
 
 impl Drawing {
     /// What the rows of an accepted map draw, whose `S` stands at an offset.
@@ -17,7 +18,7 @@ impl Drawing {
         ensures lies { LiesOn rows.now.map.now result }
     {
         Drawing {
-            cells: rows.draw(),
+            cells: Table::of(rows.draw()),
             start: rows.megacell_of(start),
         }
     }
