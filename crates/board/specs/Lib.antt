@@ -6,3 +6,4 @@ pub mod Steps
 pub mod Turning
 pub mod Floors
 pub mod Counting
+pub mod Sameness

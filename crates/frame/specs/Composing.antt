@@ -1,6 +1,7 @@
 -- What does nothing keeps the laws of a frame, and so does a frame followed by another.
 use Rattle.std.specs.Prelude.{◌≡◌, Some, None, Option, refl}
-use Rattle.std.proofs.Common.{ap, ◌∙◌}
+use Rattle.std.proofs.Common.{sym, ap, ◌∙◌}
+use Rattle.std.proofs.lemmas.Iterator.Adapters.{option_map_id}
 use Rattle.std.specs.Option.{option_map}
 use Rattle.board.specs.declared.heading.Heading.{Heading}
 use Rattle.board.specs.Squares.{Place}
@@ -12,10 +13,6 @@ pub mapped_twice : {A B C : Type 0} (f : A → B) (g : B → C) (o : Option A) �
 mapped_twice f g None = refl
 mapped_twice f g (Some a) = refl
 
-pub mapped_same : {A : Type 0} (o : Option A) → o ≡ option_map (λ a. a) o
-mapped_same None = refl
-mapped_same (Some a) = refl
-
 none_keeps : Keeps (λ p. p) (λ p. p) (λ h. h) (λ h. h)
 none_keeps = record {
   undone = λ p. refl;
@@ -24,7 +21,7 @@ none_keeps = record {
   redoes = λ h. refl;
   together = λ p q e. e;
   rejoined = λ p q e. e;
-  steps = λ p h. mapped_same (beside p h);
+  steps = λ p h. sym (option_map_id (beside p h));
 }
 
 pub passed_keeps : {F : Type 0} (taken returned : F → Place → Place) (turned restored : F → Heading → Heading)

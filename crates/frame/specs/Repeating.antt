@@ -1,12 +1,13 @@
 -- What holds of a function holds of it applied any number of times.
 use Rattle.std.specs.Prelude.{◌≡◌, ℕ, zero, suc, ◌+◌, refl}
 use Rattle.std.proofs.Common.{sym, ap, ◌∙◌, add-one}
+use Rattle.std.proofs.lemmas.Iterator.Adapters.{option_map_id}
 use Rattle.std.specs.Option.{option_map}
 use Rattle.board.specs.declared.heading.Heading.{Heading}
 use Rattle.board.specs.Squares.{Place}
 use Rattle.board.specs.Places.{megacell_of}
 use Rattle.board.specs.Steps.{beside}
-use Rattle.frame.specs.Composing.{mapped_same, mapped_twice}
+use Rattle.frame.specs.Composing.{mapped_twice}
 use Rattle.frame.specs.Frames.{times}
 use Rattle.frame.specs.Laws.{Keeps}
 
@@ -35,7 +36,7 @@ times_together (suc n) f t p q e = t (times n f p) (times n f q) (times_together
 
 times_steps : (n : ℕ) (f : Place → Place) (t : Heading → Heading) → ((p : Place) (h : Heading) → beside (f p) (t h) ≡ option_map f (beside p h)) → (p : Place) (h : Heading) → beside (times n f p) (times n t h) ≡ option_map (times n f) (beside p h)
 unfolding times
-times_steps zero f t s p h = mapped_same (beside p h)
+times_steps zero f t s p h = sym (option_map_id (beside p h))
 times_steps (suc n) f t s p h = s (times n f p) (times n t h) ∙ ap (option_map f) (times_steps n f t s p h) ∙ mapped_twice (times n f) f (beside p h)
 
 pub times_keep : (n : ℕ) {f f' : Place → Place} {t t' : Heading → Heading} → Keeps f f' t t' → Keeps (times n f) (times n f') (times n t) (times n t')

@@ -22,12 +22,6 @@ mod tests {
     use rover::meaning::Rover;
     use std::test::Fail;
 
-    // the rover of a map
-    fn drawn(map: &[u8]) -> Result<DrawnRover, Fail> {
-        let drawing = Drawing::read(map)?;
-        Ok(DrawnRover::new(DrawnFloor { drawing }))
-    }
-
     // where a frame takes (row, column), as a slot; none off the board
     fn taken<F: Frame>(frame: &F, row: u8, column: u8) -> Option<usize> {
         Some(frame.place(Place::new(row, column)?).slot())
@@ -70,7 +64,8 @@ mod tests {
     // the same function drives a rover, and the rover under three different frames
     #[test]
     fn piles(rt: HostRuntime) -> Result<(), Fail> {
-        let mut plain = drawn(b"S9\n.#\n")?;
+        let drawing = Drawing::read(b"S9\n.#\n")?;
+        let mut plain = DrawnRover::new(DrawnFloor { drawing });
         assert_eq!(rt; round(&mut plain)?, 64 + 1);
         let mut pile = Framed {
             below: Framed {
@@ -98,8 +93,9 @@ mod tests {
     // a framed rover's refusal tells its own place and the heading given to it
     #[test]
     fn refusals(rt: HostRuntime) -> Result<(), Fail> {
+        let drawing = Drawing::read(b"S\n")?;
         let mut rover = Framed {
-            below: drawn(b"S\n")?,
+            below: DrawnRover::new(DrawnFloor { drawing }),
             frame: Mirror,
         };
         let fault = RoverFault::Closed {
@@ -122,7 +118,8 @@ mod tests {
 
     #[test]
     fn lights(rt: HostRuntime) -> Result<(), Fail> {
-        let rover = drawn(b"S9\n.#\n")?;
+        let drawing = Drawing::read(b"S9\n.#\n")?;
+        let rover = DrawnRover::new(DrawnFloor { drawing });
         let mut chart = Vec::new(rt.alloc());
         chart.resize_with(4097, || Some(Light::Lux(1.0)))?;
         slots::empty(chart.as_mut_slice())?;

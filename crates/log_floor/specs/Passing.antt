@@ -7,7 +7,7 @@ use Rattle.board.specs.Squares.{Megacell}
 use Rattle.board.specs.Headings.{opposite}
 use Rattle.board.specs.Floors.{SameFromBoth, ClosedAtEdge}
 use Rattle.board.proofs.Geometry.{beside_back}
-use Rattle.rover.proofs.Passing.{and_swap, and_false}
+use Rattle.std.proofs.Math.Bool.{and_comm, and-false}
 use Rattle.log_record.specs.declared.record.Record.{Record}
 use Rattle.log_floor.specs.Told.{told_open, told_beside, floor_of}
 
@@ -22,10 +22,10 @@ pub same_from_both : (told : Megacell → Option Record) → SameFromBoth (floor
 unfolding floor_of
 same_from_both told m n h e =
     ap (λ o. told_open (told m) h && told_beside told o h) e
-    ∙ and_swap (told_open (told m) h) (told_open (told n) (opposite h))
+    ∙ and_comm (told_open (told m) h) (told_open (told n) (opposite h))
     ∙ ap (λ k. told_open (told n) (opposite h) && told_open (told m) k) (sym (back_again h))
     ∙ sym (ap (λ o. told_open (told n) (opposite h) && told_beside told o (opposite h)) (beside_back h m n e))
 
 pub closed_at_edge : (told : Megacell → Option Record) → ClosedAtEdge (floor_of told)
 unfolding floor_of
-closed_at_edge told m h e = ap (λ o. told_open (told m) h && told_beside told o h) e ∙ and_false (told_open (told m) h)
+closed_at_edge told m h e = ap (λ o. told_open (told m) h && told_beside told o h) e ∙ and-false (told_open (told m) h)

@@ -36,12 +36,6 @@ mod tests {
     use std::array::from_fn;
     use std::test::Fail;
 
-    // the rover of a map
-    fn drawn(map: &[u8]) -> Result<DrawnRover, Fail> {
-        let drawing = Drawing::read(map)?;
-        Ok(DrawnRover::new(DrawnFloor { drawing }))
-    }
-
     // worked maps; an accepted one says the number of its start
     #[test]
     fn worked_maps(rt: HostRuntime) {
@@ -174,7 +168,8 @@ mod tests {
     // the four subcells of a 9 read 112.5 lux, all others are unlit
     #[test]
     fn lamps(rt: HostRuntime) -> Result<(), Fail> {
-        let mut rover = drawn(b"S9\n")?;
+        let drawing = Drawing::read(b"S9\n")?;
+        let mut rover = DrawnRover::new(DrawnFloor { drawing });
         assert!(rt; matches!(rover.read(), Light::Unlit));
         for heading in [Heading::East, Heading::North, Heading::East, Heading::South] {
             rover.step(heading)?;
@@ -186,7 +181,8 @@ mod tests {
     // on rows S. and .#: looks and steps are counted, a refused step is not and leaves the rover where it stands
     #[test]
     fn drive(rt: HostRuntime) -> Result<(), Fail> {
-        let mut rover = drawn(b"S.\n.#\n")?;
+        let drawing = Drawing::read(b"S.\n.#\n")?;
+        let mut rover = DrawnRover::new(DrawnFloor { drawing });
         assert!(rt; rover.place().slot() == 65);
         assert!(rt; rover.look(Heading::East) && rover.look(Heading::South));
         assert!(rt; !rover.look(Heading::North) && !rover.look(Heading::West));

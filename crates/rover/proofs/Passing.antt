@@ -1,5 +1,5 @@
--- When a step passes, from two tests that a rover's code makes; and two laws of tests, for the laws of a floor.
-use Rattle.std.proofs.Common.{◌≡◌, Bool, true, false, ◌&&◌, ◌||◌, Some, sym, refl, ap, ◌∙◌, inl, inr}
+-- When a step passes, from two tests that a rover's code makes.
+use Rattle.std.proofs.Common.{◌≡◌, true, false, ◌||◌, Some, sym, ap, ◌∙◌, inl, inr}
 use Rattle.std.proofs.lemmas.Bool.{both_ways, or_cases, or_left, or_right}
 use Rattle.board.specs.declared.heading.Heading.{Heading}
 use Rattle.board.specs.Squares.{Megacell, Place, same_square}
@@ -19,13 +19,3 @@ block floor p q h e f z w =
       | inl i ↦ both_ways _ f (or_left _ _ (ap (λ (m : Megacell). same_square m (megacell_of p)) (ap megacell_of (sym is) ∙ i) ∙ same_square_refl (megacell_of p)))
       | inr i ↦ both_ways _ f (or_right _ _ i)
     ]
-
-pub and_swap : (a b : Bool) → (a && b) ≡ (b && a)
-and_swap true true = refl
-and_swap true false = refl
-and_swap false true = refl
-and_swap false false = refl
-
-pub and_false : (a : Bool) → (a && false) ≡ false
-and_false true = refl
-and_false false = refl

@@ -1,6 +1,7 @@
 -- The laws of a floor can be met, and the tours of the worked floors, by computation.
 use Rattle.std.proofs.Common.{◌≡◌, ℕ, zero, suc, ◌+◌, ◌*◌, ◌<◌, Bool, true, false, not, ◌&&◌, Option, sym, refl, ap, ◌∙◌, subst, inl, inr, arith}
 use Rattle.std.proofs.lemmas.Bool.{cases_lt, and_parts}
+use Rattle.std.proofs.Math.Bool.{and_comm}
 use Rattle.board.specs.Squares.{Megacell, Place, same_square, squared}
 use Rattle.board.specs.Headings.{left, opposite, letter}
 use Rattle.board.specs.Places.{megacell_of}
@@ -17,12 +18,6 @@ use Rattle.tour.specs.Examples.{is_free, between, shut, wide, LawsMet, one, two,
 use Rattle.tour.proofs.Coverage.{covers}
 use Rattle.tour.proofs.Home.{tour_length}
 
-and_swap : (a b : Bool) → (a && b) ≡ (b && a)
-and_swap true true = refl
-and_swap true false = refl
-and_swap false true = refl
-and_swap false false = refl
-
 and_false : (a : Bool) → (a && false) ≡ false
 and_false true = refl
 and_false false = refl
@@ -30,7 +25,7 @@ and_false false = refl
 between_is_lawful : (free : Megacell → Bool) → Lawful (between free)
 unfolding between is_free
 between_is_lawful free = record {
-  both = λ m n h e. ap (λ (o : Option Megacell). free m && is_free free o) e ∙ and_swap (free m) (free n) ∙ sym (ap (λ (o : Option Megacell). free n && is_free free o) (beside_back h m n e));
+  both = λ m n h e. ap (λ (o : Option Megacell). free m && is_free free o) e ∙ and_comm (free m) (free n) ∙ sym (ap (λ (o : Option Megacell). free n && is_free free o) (beside_back h m n e));
   edge = λ m h e. ap (λ (o : Option Megacell). free m && is_free free o) e ∙ and_false (free m);
 }
 
