@@ -1,6 +1,8 @@
 ghost use Rattle.std.specs.Prelude.{◌≡◌};
 ghost use Rattle.board.specs.Headings.{left, right, opposite, heading_number, letter};
 
+use std::fmt;
+
 /// One of the four ways to go. North is towards row 0, west towards column 0.
 #[derive(Clone, Copy, Debug, PartialEq, Eq)]
 pub enum Heading {
@@ -76,5 +78,17 @@ impl Heading {
             Heading::South => b'S',
             Heading::West => b'W',
         }
+    }
+}
+
+/// A heading is written as its letter.
+impl fmt::Display for Heading {
+    fn fmt<W: fmt::Write>(&self, f: &mut fmt::Formatter<W>) -> fmt::Result {
+        f.write_str(match self {
+            Heading::North => "N",
+            Heading::East => "E",
+            Heading::South => "S",
+            Heading::West => "W",
+        })
     }
 }

@@ -20,6 +20,9 @@ pub fn chart_of<T: Drop>(heap: Global) -> Result<Vec<Slot<T>>, AllocError>
     Ok(chart)
 }
 
+// Each call asks anew whether the slots are enough, and a type does not know it: a rule of the project, they are lent at
+// each call.
+
 /// Refuses slots that are too few for a chart.
 pub fn need<T>(slots: &[Slot<T>]) -> Result<(), ChartFault>
     ensures { MatchResult result (λ _. 4096 ≤ length slots.now) (λ e. TooFew (length slots.now) e) }

@@ -23,6 +23,14 @@ fn tell<F: Fault + fmt::Display>(rt: &HostRuntime, fault: &F) -> io::Result<()> 
     println!(rt; "{number} {layer} {place}: {fault}")
 }
 
+/// The lines of several refusals of one kind.
+fn tell_all<F: Fault + fmt::Display>(rt: &HostRuntime, faults: &[F]) -> io::Result<()> {
+    for fault in faults {
+        tell(rt, fault)?;
+    }
+    Ok(())
+}
+
 fn tell_maps(rt: &HostRuntime) -> io::Result<()> {
     let faults = [
         MapFault::Length { bytes: 1057 },
@@ -32,10 +40,7 @@ fn tell_maps(rt: &HostRuntime) -> io::Result<()> {
         MapFault::NoStart { bytes: 2 },
         MapFault::SecondStart { offset: 5 },
     ];
-    for fault in &faults {
-        tell(rt, fault)?;
-    }
-    Ok(())
+    tell_all(rt, &faults)
 }
 
 fn tell_logs(rt: &HostRuntime) -> io::Result<()> {
@@ -47,10 +52,7 @@ fn tell_logs(rt: &HostRuntime) -> io::Result<()> {
         LogFault::SecondRecord { record: 4 },
         LogFault::StartUntold,
     ];
-    for fault in &faults {
-        tell(rt, fault)?;
-    }
-    Ok(())
+    tell_all(rt, &faults)
 }
 
 fn tell_sweeps(rt: &HostRuntime) -> io::Result<()> {
@@ -84,10 +86,7 @@ fn tell_surveys(rt: &HostRuntime) -> io::Result<()> {
         SurveyFault::Sheet(SheetFault::Short { needed: 26 }),
     ];
     tell(rt, &unknown)?;
-    for fault in &faults {
-        tell(rt, fault)?;
-    }
-    Ok(())
+    tell_all(rt, &faults)
 }
 
 fn tell_readings(rt: &HostRuntime) -> io::Result<()> {

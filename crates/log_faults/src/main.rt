@@ -9,6 +9,7 @@ ghost use Rattle.log_faults.specs.Hex.{digit_of};
 ghost use Rattle.log_faults.specs.Said.{said_of, refused_line};
 
 use fault::Fault;
+use fault::refusal::Refusal;
 use log_format::log::Log;
 use std::alloc::{AllocError, Global};
 use std::io;
@@ -40,9 +41,14 @@ fn unhex(heap: Global, text: &[u8]) -> Result<Vec<u8>, AllocError> {
 }
 
 /// The line of a refused log.
-fn refused(heap: Global, name: &str, number: u8, place: usize) -> Result<String, AllocError>
-    ensures { IfOk result (λ s. string_bytes s ≡ name.now ++ refused_line number place) }
+fn refused(heap: Global, name: &str, refusal: Refusal) -> Result<String, AllocError>
+    ensures { IfOk result (λ s. string_bytes s ≡ name.now ++ refused_line refusal.number refusal.place) }
 {
+    let Refusal {
+        number,
+        layer: _,
+        place,
+    } = refusal;
     format!(in heap; "{name}: {number} {place}")
 }
 
@@ -52,7 +58,7 @@ fn said(heap: Global, name: &str, log: &[u8]) -> Result<String, AllocError>
 {
     match Log::read(log) {
         Ok(_) => format!(in heap; "{name}: accepted"),
-        Err(fault) => refused(heap, name, fault.number(), fault.place()),
+        Err(fault) => refused(heap, name, fault.refusal()),
     }
 }
 

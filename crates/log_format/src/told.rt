@@ -11,7 +11,7 @@ use log_record::faults::LogFault;
 /// Which megacells a chain has told of, by their numbers.
 #[derive(Drop)]
 pub(crate) struct Told {
-    // a table and no set, which would allocate: the reader cannot want for memory
+    // A table and no set, which would allocate: the reader cannot want for memory.
     seen: Table<bool>,
 }
 

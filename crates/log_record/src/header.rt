@@ -10,6 +10,7 @@ pub struct Header {
     /// How many records the log has.
     pub count: u16,
     /// The index of the first record of the chain; 0 where the chain has none.
+    // The number that the log has, and no `Option`: an index and its end are one number in the format and in its rules.
     pub first: u16,
     /// Where the rover starts.
     pub start: Place,

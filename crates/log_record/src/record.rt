@@ -14,6 +14,7 @@ pub struct Record {
     /// The megacell told of.
     pub megacell: Megacell,
     /// The open sides: the bit of value 2 to the power h for the heading with number h.
+    // The byte that the log has: `opens` reads it.
     pub sides: u8,
     /// The counts read in the four subcells, in quarters of a lux.
     pub north_west: u16,

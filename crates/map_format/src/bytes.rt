@@ -6,7 +6,7 @@ ghost use Rattle.map_format.specs.Bytes.{permitted, forbidden, first_from};
 fn is_permitted(byte: u8) -> bool
     ensures { result ≡ permitted byte }
 {
-    byte == b'\n' || byte == b'#' || byte == b'.' || byte == b'S' || (byte >= b'0' && byte <= b'9')
+    matches!(byte, b'\n' | b'#' | b'.' | b'S' | b'0'..=b'9')
 }
 
 /// The offset of the first byte that no map has.

@@ -8,11 +8,8 @@ use super::digit::Digit;
 pub(crate) fn cell_of(byte: u8) -> Cell
     ensures { result ≡ cell_of byte }
 {
-    if byte == b'#' {
-        return Cell::Blocked;
-    }
-    match Digit::of_byte(byte) {
-        Some(digit) => Cell::Lamp(digit),
-        None => Cell::Free,
+    match byte {
+        b'#' => Cell::Blocked,
+        _ => Digit::of_byte(byte).map_or(Cell::Free, Cell::Lamp),
     }
 }

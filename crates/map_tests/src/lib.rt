@@ -15,9 +15,12 @@ fn told<F: Fault>(fault: &F) -> (u8, usize)
     (fault.number(), fault.place())
 }
 
+/// What is said of a map: the number of the start's megacell, or the refusal's number and place.
+type Said = Result<usize, (u8, usize)>;
+
 /// What is said of a map: of an accepted one the number of the start's megacell; of a refused one the refusal's number
 /// and place.
-fn said(map: &[u8]) -> Result<usize, (u8, usize)>
+fn said(map: &[u8]) -> Said
     ensures { result ≡ said_of (answer map.now) }
 {
     match Drawing::read(map) {
@@ -34,12 +37,20 @@ mod tests {
     use drawn_floor::light::Light;
     use rover::meaning::Rover;
     use std::array::from_fn;
+    use std::process::Abort;
     use std::test::Fail;
+
+    // each map is answered so
+    fn answered(rt: &impl Abort, maps: &[(&[u8], Said)]) {
+        for (map, answer) in maps {
+            assert!(rt; said(map) == *answer);
+        }
+    }
 
     // worked maps; an accepted one says the number of its start
     #[test]
     fn worked_maps(rt: HostRuntime) {
-        let maps: [(&[u8], Result<usize, (u8, usize)>); 8] = [
+        let maps: [(&[u8], Said); 8] = [
             (b"S\n", Ok(0)),
             (b"S.\n.#\n", Ok(0)),
             (b"..\n.S\n", Ok(33)),
@@ -49,15 +60,13 @@ mod tests {
             (b"S", Err((4, 0))),
             (b".S\nS.\n", Err((6, 3))),
         ];
-        for (map, answer) in maps.iter() {
-            assert!(rt; said(*map) == *answer);
-        }
+        answered(&rt, &maps);
     }
 
     // the first forbidden byte; CR is one
     #[test]
     fn forbidden_bytes(rt: HostRuntime) {
-        let maps: [(&[u8], Result<usize, (u8, usize)>); 16] = [
+        let maps: [(&[u8], Said); 16] = [
             (b"S..\n.#.\n...\n ", Err((3, 12))),
             (b"S..\t.#.\n...\n", Err((3, 3))),
             (b"S..T.#.\n...\n", Err((3, 3))),
@@ -75,15 +84,13 @@ mod tests {
             (b"S.-\n.#.\n...\n", Err((3, 2))),
             (b"S..\n/#.\n...\n", Err((3, 4))),
         ];
-        for (map, answer) in maps.iter() {
-            assert!(rt; said(*map) == *answer);
-        }
+        answered(&rt, &maps);
     }
 
     // rows of a wrong width or without LF; 32 columns pass
     #[test]
     fn bad_rows(rt: HostRuntime) {
-        let maps: [(&[u8], Result<usize, (u8, usize)>); 6] = [
+        let maps: [(&[u8], Said); 6] = [
             (b"S..\n.#.\n...", Err((4, 8))),
             (
                 b"S\n.\n.\n.\n.\n.\n.\n.\n.\n.\n.\n.\n.\n.\n.\n.\n.\n.\n.\n.\n.\n.\n.\n.\n.\n.\n.\n.\n.\n.\n.\n.\n\n",
@@ -94,15 +101,13 @@ mod tests {
             (b"S................................\n", Err((4, 0))),
             (b"S...............................\n", Ok(0)),
         ];
-        for (map, answer) in maps.iter() {
-            assert!(rt; said(*map) == *answer);
-        }
+        answered(&rt, &maps);
     }
 
     // 32 rows pass, a 33rd does not
     #[test]
     fn rows_and_starts(rt: HostRuntime) {
-        let maps: [(&[u8], Result<usize, (u8, usize)>); 5] = [
+        let maps: [(&[u8], Said); 5] = [
             (
                 b"S\n.\n.\n.\n.\n.\n.\n.\n.\n.\n.\n.\n.\n.\n.\n.\n.\n.\n.\n.\n.\n.\n.\n.\n.\n.\n.\n.\n.\n.\n.\n.\n",
                 Ok(0),
@@ -121,15 +126,13 @@ mod tests {
             ),
             (b"SS\n", Err((6, 1))),
         ];
-        for (map, answer) in maps.iter() {
-            assert!(rt; said(*map) == *answer);
-        }
+        answered(&rt, &maps);
     }
 
     // of several reasons the first counts
     #[test]
     fn first_reason_counts(rt: HostRuntime) {
-        let maps: [(&[u8], Result<usize, (u8, usize)>); 5] = [
+        let maps: [(&[u8], Said); 5] = [
             (
                 b"..S..\r\n......\n......\n......\n......\n......\n......\n......\n......\n......\n.................................\n......\n",
                 Err((3, 5)),
@@ -151,9 +154,7 @@ mod tests {
                 Err((5, 224)),
             ),
         ];
-        for (map, answer) in maps.iter() {
-            assert!(rt; said(*map) == *answer);
-        }
+        answered(&rt, &maps);
     }
 
     // 32 rows of 32 megacells are 1,056 bytes, and pass; a byte more does not

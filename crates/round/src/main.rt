@@ -19,13 +19,12 @@ const MOST: u64 = 1057;
 /// Looks to the four sides of the megacell stood in.
 fn look_round<R: Rover>(rt: &HostRuntime, rover: &mut R) -> io::Result<()> {
     for heading in [Heading::North, Heading::East, Heading::South, Heading::West] {
-        let letter = heading.letter() as char;
         let side = if rover.look(heading) {
             "open"
         } else {
             "closed"
         };
-        println!(rt; "look {letter} {side}")?;
+        println!(rt; "look {heading} {side}")?;
     }
     Ok(())
 }
@@ -40,7 +39,6 @@ where
     R::Reading: fmt::Display,
 {
     let heading = rover.place().exit().left();
-    let letter = heading.letter() as char;
     if let Err(fault) = rover.step(heading) {
         return refuse(rt, &fault);
     }
@@ -49,8 +47,8 @@ where
     let row = place.row();
     let column = place.column();
     match slots::at(chart, place)? {
-        Some(reading) => println!(rt; "step {letter} to {row} {column} reads {reading}")?,
-        None => println!(rt; "step {letter} to {row} {column}")?,
+        Some(reading) => println!(rt; "step {heading} to {row} {column} reads {reading}")?,
+        None => println!(rt; "step {heading} to {row} {column}")?,
     }
     Ok(())
 }
@@ -79,15 +77,11 @@ where
     Ok(())
 }
 
-fn run(rt: &HostRuntime) -> anyhow::Result<()> {
+fn main(rt: HostRuntime) -> anyhow::Result<()> {
     let mut map = Vec::new(rt.alloc());
     rt.stdin().take(MOST).read_to_end(&mut map)?;
     match Drawing::read(map.as_slice()) {
-        Ok(drawing) => round(rt, DrawnRover::new(DrawnFloor { drawing })),
-        Err(fault) => refuse(rt, &fault),
+        Ok(drawing) => round(&rt, DrawnRover::new(DrawnFloor { drawing })),
+        Err(fault) => refuse(&rt, &fault),
     }
-}
-
-fn main(rt: HostRuntime) -> anyhow::Result<()> {
-    run(&rt)
 }

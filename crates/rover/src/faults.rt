@@ -11,8 +11,12 @@ use thiserror::Error;
 pub enum RoverFault {
     /// The side is closed, or the next subcell lies off the board: the slot (64 times the row, and the column)
     /// of the place stood on, and the heading asked for.
-    #[error("no way {letter} from row {row}, column {column}: that side is closed", letter = .heading.letter() as char, row = .slot / 64, column = .slot % 64)]
-    Closed { slot: usize, heading: Heading },
+    #[error("no way {heading} from row {row}, column {column}: that side is closed", row = .slot / 64, column = .slot % 64)]
+    // The slot, and no `Place`: a refusal tells a number.
+    Closed {
+        slot: usize,
+        heading: Heading,
+    },
 }
 
 impl Fault for RoverFault {

@@ -26,6 +26,7 @@ pub(crate) fn letter_lines(out: &mut [u8], letters: &[u8]) -> usize
     requires { Room out.old (lines_of letters.now) }
     ensures { Put out.old (lines_of letters.now) out.new result }
 {
+    // A loop, and no chain: each line is lent the part after the one before, a rule of the project.
     let mut at = 0;
     for line in letters.chunks(64) {
         at += Line::new(line, []).put(&mut out[at..]);

@@ -8,6 +8,7 @@ use fault::Fault;
 use sweep::sweep::Record;
 
 /// A line of a word and numbers, each number after a space.
+// No `impl Model`: the borrow check does not cover the array of a struct that holds a reference too.
 #[derive(Clone, Copy)]
 pub(crate) struct Line<'a, const N: usize> {
     word: &'a [u8],
@@ -45,6 +46,7 @@ impl<'a, const N: usize> Line<'a, N> {
         requires { Room out.old (worded self.now.word.now self.now.numbers) }
         ensures { Put out.old (worded self.now.word.now self.now.numbers) out.new result }
     {
+        // A loop, and no chain: each number is lent the part after the one before, a rule of the project.
         let mut at = put_text(out, self.word);
         for number in &self.numbers {
             at += put_spaced(&mut out[at..], *number);

@@ -27,7 +27,7 @@ pub(crate) fn drive<R: Rover + Drop>(
     ensures driven { Driven (R.Rover.floor rover) (R.Rover.field rover) (R.Rover.place rover) (moves_in (R.Rover.floor rover) (R.Rover.place rover) (length tour.old)) chart.old tour.old chart.new tour.new }
 {
     let mut sweep = Sweep::start(rover);
-    // by cases: with `unwrap` the proof did not close
+    // By cases: with `unwrap` the proof did not close.
     let ran = match sweep.run(chart, tour) {
         Ok(ran) => ran,
         Err(_) => unreachable(),

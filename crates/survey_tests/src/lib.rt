@@ -4,24 +4,15 @@
 #[cfg(test)]
 mod tests {
     use board::place::Place;
-    use chart::slot::Slot;
-    use drawn_floor::light::Light;
+    use chart::slots::chart_of;
     use fault::Fault;
     use sheet::layout::{lay_out, lay_out_refusal};
-    use std::alloc::Global;
     use std::process::Abort;
     use std::test::Fail;
     use survey::faults::SurveyFault;
     use survey::log::survey_log;
     use survey::map::survey_map;
     use sweep::sweep::Record;
-
-    // a chart of so many empty slots
-    fn slots(heap: Global, count: usize) -> Result<Vec<Slot<Light>>, Fail> {
-        let mut chart = Vec::new(heap);
-        chart.resize_with(count, || None)?;
-        Ok(chart)
-    }
 
     fn refused(rt: &impl Abort, answer: Result<usize, SurveyFault>, number: u8, place: usize) {
         let fault = answer.expect_err(rt, "a refusal");
@@ -34,15 +25,20 @@ mod tests {
     fn chart_sizes(rt: HostRuntime) -> Result<(), Fail> {
         let mut tour = [0u8; 16];
         let mut sheet = [0u8; 64];
-        let mut short = slots(rt.alloc(), 4095)?;
+        let mut chart = chart_of(rt.alloc())?;
         refused(
             &rt,
-            survey_map(b"S\n", 0, short.as_mut_slice(), &mut tour, &mut sheet),
+            survey_map(
+                b"S\n",
+                0,
+                &mut chart.as_mut_slice()[..4095],
+                &mut tour,
+                &mut sheet,
+            ),
             13,
             4095,
         );
         assert!(rt; sheet == [0u8; 64]);
-        let mut chart = slots(rt.alloc(), 4096)?;
         let length = survey_map(b"S\n", 0, chart.as_mut_slice(), &mut tour, &mut sheet)?;
         assert_eq!(rt; length, 26);
         Ok(())
@@ -53,7 +49,7 @@ mod tests {
     fn frames(rt: HostRuntime) -> Result<(), Fail> {
         let mut tour = [0u8; 16];
         let mut sheet = [0u8; 64];
-        let mut chart = slots(rt.alloc(), 4096)?;
+        let mut chart = chart_of(rt.alloc())?;
         survey_map(b"S\n", 4, chart.as_mut_slice(), &mut tour, &mut sheet)?;
         assert!(rt; sheet.starts_with(b"START 1 62\nENWS\nHOME 4 2 1\n"));
         refused(
@@ -70,7 +66,7 @@ mod tests {
     fn short_sheet(rt: HostRuntime) -> Result<(), Fail> {
         let mut tour = [b'-'; 5];
         let mut sheet = [b'-'; 25];
-        let mut chart = slots(rt.alloc(), 4096)?;
+        let mut chart = chart_of(rt.alloc())?;
         refused(
             &rt,
             survey_map(b"S\n", 0, chart.as_mut_slice(), &mut tour, &mut sheet),
@@ -87,7 +83,7 @@ mod tests {
     fn stopped(rt: HostRuntime) -> Result<(), Fail> {
         let mut tour = [0u8; 3];
         let mut sheet = [0u8; 64];
-        let mut chart = slots(rt.alloc(), 4096)?;
+        let mut chart = chart_of(rt.alloc())?;
         survey_map(b"S.\n", 0, chart.as_mut_slice(), &mut tour, &mut sheet)?;
         assert!(rt; sheet.starts_with(b"START 1 1\nEEN\nSTOPPED 3 3 2\n"));
         Ok(())

@@ -88,6 +88,7 @@ pub fn make_calls<R: Rover>(
     ensures beyond { SameBeyond slots.old slots.new }
 {
     let mut sweep = Sweep::start(rover);
+    // A loop, and no fold: each call is lent the bytes that are left, a rule of the project.
     let mut written = 0;
     for call in calls {
         written += make_call(&mut sweep, *call, slots, &mut tour[written..]);

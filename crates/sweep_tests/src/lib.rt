@@ -36,10 +36,13 @@ mod tests {
     }
 
     fn tells(rt: &impl Abort, record: Record, moves: u32, looks: u32, megacells: u32) {
-        assert!(rt; record.home);
-        assert_eq!(rt; record.moves, moves);
-        assert_eq!(rt; record.looks, looks);
-        assert_eq!(rt; record.megacells, megacells);
+        let wanted = Record {
+            moves,
+            looks,
+            megacells,
+            home: true,
+        };
+        assert_eq!(rt; record, wanted);
     }
 
     fn drawn(map: &[u8]) -> Result<DrawnRover, Fail> {

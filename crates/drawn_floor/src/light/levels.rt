@@ -20,8 +20,7 @@ impl Light {
         ensures { result ≡ light_of cell }
     {
         match cell {
-            Cell::Blocked => Light::Unlit,
-            Cell::Free => Light::Unlit,
+            Cell::Blocked | Cell::Free => Light::Unlit,
             Cell::Lamp(digit) => Light::Lux(level(digit)),
         }
     }

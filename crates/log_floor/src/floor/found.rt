@@ -24,7 +24,7 @@ impl<'a> LogFloor<'a> {
     fn told_beside(&self, neighbour: Option<Megacell>, heading: Heading) -> bool
         ensures { result ≡ told_beside (record_of self.now.log.chain.bytes.now) neighbour heading }
     {
-        // by cases: with `is_some_and` the proof did not close
+        // By cases: with `is_some_and` the proof did not close.
         match neighbour {
             Some(megacell) => self.told_open(megacell, heading.opposite()),
             None => false,

@@ -42,7 +42,7 @@ impl<'a> Log<'a> {
 }
 
 /// The record of a megacell, from an index of the chain on.
-// a recursion and no loop: a rule of the project
+// A recursion and no loop: a rule of the project.
 fn seek(log: &[u8], index: u16, megacell: Megacell) -> Option<Record>
     requires { Reaching log.now index megacell }
     ensures { result ≡ record_of log.now megacell }
