@@ -9,6 +9,7 @@ use fault::Fault;
 use log_format::log::Log;
 
 /// A refusal's number and place; none of an accepted log.
+// Two numbers, and no `Refusal`: the lines below stay the rules' own, in which each number has one layer.
 fn said(log: &[u8]) -> Option<(u8, usize)>
     ensures { result ≡ said_of (refusal log.now) }
 {
@@ -27,7 +28,8 @@ mod tests {
     use rover::meaning::Rover;
     use std::test::Fail;
 
-    // Puts a number into two bytes, the high one first.
+    // Puts a number into two bytes, the high one first; past the end nothing. The log is an array, so that it is read
+    // without memory, and a record has its number: hence the offsets.
     fn put(log: &mut [u8; 16409], at: usize, number: u16) {
         if at < 16408 {
             log[at..at + 2].copy_from_slice(&number.to_be_bytes());

@@ -16,6 +16,7 @@ fn told<F: Fault>(fault: &F) -> (u8, usize)
 }
 
 /// What is said of a map: the number of the start's megacell, or the refusal's number and place.
+// Two numbers, and no `Refusal`: the tables below stay the rules' own, in which each number has one layer.
 type Said = Result<usize, (u8, usize)>;
 
 /// What is said of a map: of an accepted one the number of the start's megacell; of a refused one the refusal's number

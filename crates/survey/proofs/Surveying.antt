@@ -1,5 +1,5 @@
 -- The sheet of a run: its letters are letters, and what is laid out is what the run leaves.
-use Rattle.std.proofs.Common.{◌≡◌, ℕ, zero, suc, ◌+◌, ◌-◌, ◌<◌, ◌≤◌, Bool, true, false, cond, not, ltb, List, [], ◌∷◌, length, take, drop, Some, None, sym, refl, ap, ◌∙◌, arith, length-append}
+use Rattle.std.proofs.Common.{◌≡◌, ℕ, zero, suc, ◌+◌, ◌<◌, ◌≤◌, Bool, true, false, cond, not, ltb, List, [], ◌∷◌, length, take, drop, Some, None, sym, refl, ap, ◌∙◌, arith, length-append}
 use Rattle.std.proofs.lemmas.Bool.{ltb-true, ltb-false}
 use Rattle.std.proofs.lemmas.List.{take_at}
 use Rattle.firsts.proofs.Firsts.{first_none}
@@ -47,10 +47,9 @@ length_tour floor s zero = refl
 length_tour floor s (suc n) = let l = length-append (tour floor s n) (_ ∷ []) in l ∙ ap (λ k. k + 1) (length_tour floor s n) ∙ omega arith
 
 -- the letters of a run stand at the front of its tour buffer
-pub letters_front : {A : Type 0} (floor : Floor) (field : Place → A) (s : Place) (n m : ℕ) (slots slots_after : List (Slot A)) (bytes bytes_after : List ℕ) → m ≡ n → Driven floor field s n slots bytes slots_after bytes_after → take (m - 0) (drop 0 bytes_after) ≡ letters (tour floor s n)
+pub letters_front : {A : Type 0} (floor : Floor) (field : Place → A) (s : Place) (n m : ℕ) (slots slots_after : List (Slot A)) (bytes bytes_after : List ℕ) → m ≡ n → Driven floor field s n slots bytes slots_after bytes_after → take m bytes_after ≡ letters (tour floor s n)
 letters_front floor field s n m slots slots_after bytes bytes_after e d =
-    let z : m - 0 ≡ n = omega arith in
-    ap (λ k. take k bytes_after) z
+    ap (λ k. take k bytes_after) e
     ∙ ap (take n) d.tour
     ∙ take_at (letters (tour floor s n)) (drop n bytes) n (length_letters (tour floor s n) ∙ length_tour floor s n)
 

@@ -25,8 +25,7 @@ pub fn survey_rover<R: Rover + Drop>(
 {
     slots::empty(chart)?;
     let start = rover.place();
-    let run = drive(rover, chart, tour);
-    let letters = run.letters;
-    let length = lay_out(sheet, start, &tour[0..letters], run.ending)?;
+    let ending = drive(rover, chart, tour);
+    let length = lay_out(sheet, start, &tour[..ending.moves as usize], ending)?;
     Ok(length)
 }

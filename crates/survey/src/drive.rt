@@ -7,34 +7,23 @@ use chart::slot::Slot;
 use rover::meaning::Rover;
 use sweep::sweep::{Record, Sweep};
 
-/// What one run made: how many letters it wrote, and the record of its sweep.
-#[derive(Clone, Copy)]
-pub(crate) struct Run {
-    pub(crate) letters: usize,
-    pub(crate) ending: Record,
-}
-
-/// One run of a rover over an empty chart.
+/// One run of a rover over an empty chart: the record of its sweep. Each move has its letter.
 pub(crate) fn drive<R: Rover + Drop>(
     rover: R,
     chart: &mut [Slot<R::Reading>],
     tour: &mut [u8],
-) -> Run
+) -> Record
     requires { Blank chart.old }
-    ensures letters { result.letters ≡ moves_in (R.Rover.floor rover) (R.Rover.place rover) (length tour.old) }
-    ensures fits { result.letters ≤ length tour.old }
-    ensures ending { result.ending ≡ record_after (R.Rover.floor rover) (R.Rover.place rover) (moves_in (R.Rover.floor rover) (R.Rover.place rover) (length tour.old)) }
+    ensures fits { result.moves ≤ length tour.old }
+    ensures ending { result ≡ record_after (R.Rover.floor rover) (R.Rover.place rover) (moves_in (R.Rover.floor rover) (R.Rover.place rover) (length tour.old)) }
     ensures driven { Driven (R.Rover.floor rover) (R.Rover.field rover) (R.Rover.place rover) (moves_in (R.Rover.floor rover) (R.Rover.place rover) (length tour.old)) chart.old tour.old chart.new tour.new }
 {
     let mut sweep = Sweep::start(rover);
     // By cases: with `unwrap` the proof did not close.
-    let ran = match sweep.run(chart, tour) {
-        Ok(ran) => ran,
+    match sweep.run(chart, tour) {
+        Ok(_) => {}
         Err(_) => unreachable(),
-    };
-    let (_rover, ending) = sweep.end();
-    Run {
-        letters: ran.letters,
-        ending,
     }
+    let (_rover, ending) = sweep.end();
+    ending
 }

@@ -6,6 +6,8 @@ mod tests {
     use board::place::Place;
     use chart::slots::chart_of;
     use fault::Fault;
+    use fault::layer::Layer;
+    use fault::refusal::Refusal;
     use sheet::layout::{lay_out, lay_out_refusal};
     use std::process::Abort;
     use std::test::Fail;
@@ -14,10 +16,8 @@ mod tests {
     use survey::map::survey_map;
     use sweep::sweep::Record;
 
-    fn refused(rt: &impl Abort, answer: Result<usize, SurveyFault>, number: u8, place: usize) {
-        let fault = answer.expect_err(rt, "a refusal");
-        assert_eq!(rt; fault.number(), number);
-        assert_eq!(rt; fault.place(), place);
+    fn refused(rt: &impl Abort, answer: Result<usize, SurveyFault>, refusal: Refusal) {
+        assert_eq!(rt; answer.expect_err(rt, "a refusal").refusal(), refusal);
     }
 
     // 4,095 slots are refused with 13, 4,096 are a chart
@@ -35,8 +35,7 @@ mod tests {
                 &mut tour,
                 &mut sheet,
             ),
-            13,
-            4095,
+            Refusal::new(13, Layer::Chart, 4095),
         );
         assert!(rt; sheet == [0u8; 64]);
         let length = survey_map(b"S\n", 0, chart.as_mut_slice(), &mut tour, &mut sheet)?;
@@ -55,8 +54,7 @@ mod tests {
         refused(
             &rt,
             survey_map(b"", 8, chart.as_mut_slice(), &mut tour, &mut sheet),
-            1,
-            0,
+            Refusal::new(1, Layer::Survey, 0),
         );
         Ok(())
     }
@@ -70,8 +68,7 @@ mod tests {
         refused(
             &rt,
             survey_map(b"S\n", 0, chart.as_mut_slice(), &mut tour, &mut sheet),
-            17,
-            26,
+            Refusal::new(17, Layer::Sheet, 26),
         );
         assert!(rt; sheet == [b'-'; 25]);
         assert!(rt; tour == *b"NWSE-");
@@ -98,8 +95,7 @@ mod tests {
         refused(
             &rt,
             survey_log(&[0u8; 8], 0, &mut chart, &mut tour, &mut sheet),
-            12,
-            0,
+            Refusal::new(12, Layer::Log, 0),
         );
     }
 

@@ -7,6 +7,8 @@ mod tests {
     use chart::slots::chart_of;
     use drawn_floor::floor::{DrawnFloor, DrawnRover};
     use fault::Fault;
+    use fault::layer::Layer;
+    use fault::refusal::Refusal;
     use frame::Frame;
     use frame::mirror::Mirror;
     use frame::turn::Turn;
@@ -134,8 +136,8 @@ mod tests {
         let (_rover, record) = sweep.end();
         assert!(rt; ran?.home);
         assert_eq!(rt; record.moves, 4);
-        let refused = again.err().map(|fault| (fault.number(), fault.place()));
-        assert_eq!(rt; refused, Some((14, 0)));
+        let refused = again.err().map(|fault| fault.refusal());
+        assert_eq!(rt; refused, Some(Refusal::new(14, Layer::Sweep, 0)));
         Ok(())
     }
 

@@ -1,7 +1,6 @@
 ghost use Rattle.std.specs.Prelude.{◌≡◌};
 ghost use Rattle.log_record.specs.Layout.{start_of};
-ghost use Rattle.log_format.specs.Log.{record_of};
-ghost use Rattle.log_floor.specs.Told.{told_open, told_beside, floor_of, field_of};
+ghost use Rattle.log_floor.specs.Told.{told_by, told_open, told_beside, floor_of, field_of};
 ghost use Rattle.log_floor.specs.Passing.{same_from_both, closed_at_edge};
 
 use super::LogFloor;
@@ -13,7 +12,7 @@ use terrain::Terrain;
 impl<'a> LogFloor<'a> {
     /// Whether a megacell has a record, and its record tells the side at a heading open.
     fn told_open(&self, megacell: Megacell, heading: Heading) -> bool
-        ensures { result ≡ told_open (record_of self.now.log.chain.bytes.now megacell) heading }
+        ensures { result ≡ told_open (told_by self.now.log megacell) heading }
     {
         self.log
             .record(megacell)
@@ -22,7 +21,7 @@ impl<'a> LogFloor<'a> {
 
     /// The same of a neighbour, where there is one: the heading is the one that leads to it.
     fn told_beside(&self, neighbour: Option<Megacell>, heading: Heading) -> bool
-        ensures { result ≡ told_beside (record_of self.now.log.chain.bytes.now) neighbour heading }
+        ensures { result ≡ told_beside (told_by self.now.log) neighbour heading }
     {
         // By cases: with `is_some_and` the proof did not close.
         match neighbour {
@@ -35,15 +34,15 @@ impl<'a> LogFloor<'a> {
 impl<'a> Terrain for LogFloor<'a> {
     type Reading = u16;
 
-    ghost floor = { λ s. floor_of (record_of s.log.chain.bytes.now) };
+    ghost floor = { λ s. floor_of (told_by s.log) };
 
-    ghost field = { λ s. field_of (record_of s.log.chain.bytes.now) };
+    ghost field = { λ s. field_of (told_by s.log) };
 
     ghost start = { λ s. start_of s.log.chain.bytes.now };
 
-    ghost sides = { λ s. same_from_both (record_of s.log.chain.bytes.now) };
+    ghost sides = { λ s. same_from_both (told_by s.log) };
 
-    ghost edge = { λ s. closed_at_edge (record_of s.log.chain.bytes.now) };
+    ghost edge = { λ s. closed_at_edge (told_by s.log) };
 
     #[tactic(auto, unfolding(crate::specs::Told::floor_of))]
     fn is_open(&self, megacell: Megacell, heading: Heading) -> bool {

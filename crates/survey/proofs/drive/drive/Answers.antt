@@ -1,4 +1,5 @@
-use Rattle.std.proofs.Common.{◌≡◌, ℕ, ◌+◌, length, ap, ◌∙◌, subst, zero-add}
+use Rattle.std.proofs.Common.{◌≡◌, ℕ, ◌+◌, length, ap, ◌∙◌, subst, zero-add, arith}
+use Rattle.sweep.specs.declared.sweep.Record.{Record}
 use Rattle.sweep.specs.Promise.{Letters}
 use Rattle.survey.specs.Course.{moves_in, record_after}
 use Rattle.survey.specs.Surveys.{Driven}
@@ -11,7 +12,7 @@ unreachable-requires g c = (c.in-Err.ensures.law c.args.rover 0 c.requires.room 
 pub returns : goal.returns
 returns g c =
     let rover = c.args.rover in
-    let n = c.in-Ok.ran.letters in
+    let n = c.in-Ok.field-0.letters in
     let after = c.run.new.self in
     let told = c.in-Ok.ensures.law rover 0 c.requires.room c.start-sweep.ensures.law in
     let runs = c.in-Ok.ensures.done.0 in
@@ -22,8 +23,7 @@ returns g c =
     let all : n ≡ moves_in (g.R.Rover.floor rover) (g.R.Rover.place rover) (length c.args.tour.now) = made_are g.R.Rover rover after c.args.chart.now c.run.new.slots c.args.tour.now c.run.new.tour n told.0 e in
     let end = c.end-rover.ensures.is in
     record {
-      letters = all;
-      fits = runs.fits;
+      fits = omega (arith, runs.fits, e, ap (λ (r : Record). r.moves) end.1);
       ending = record_is g.R.Rover rover after c.args.chart.now c.run.new.slots c.args.tour.now c.run.new.tour n c.end-rover.result.1 (0 + length c.args.tour.now) told.0 e end.1
           ∙ ap (record_after (g.R.Rover.floor rover) (g.R.Rover.place rover)) all;
       driven = subst (λ (k : ℕ). Driven (g.R.Rover.floor rover) (g.R.Rover.field rover) (g.R.Rover.place rover) k c.args.chart.now c.args.tour.now c.run.new.slots c.run.new.tour) all
