@@ -14,6 +14,7 @@ use std::io::Read;
 use std::{fmt, io};
 
 /// The longest map, and one byte more, by which a longer one is told.
+// `survey_map` has the number too: a program says what it reads, and one constant for two programs is no plainer.
 const MOST: u64 = 1057;
 
 /// Looks to the four sides of the megacell stood in.
