@@ -1,7 +1,7 @@
 ghost use Rattle.std.specs.Prelude.{◌<◌};
 
 /// A square of a board with `SIDE` rows and `SIDE` columns: a row and a column, each below `SIDE`.
-#[derive(Clone, Copy, Debug, PartialEq, Eq)]
+#[derive(Clone, Copy, PartialEq, Eq)]
 pub struct Square<const SIDE: u8> {
     row: u8,
     column: u8,
@@ -9,4 +9,5 @@ pub struct Square<const SIDE: u8> {
     ghost columns: { column < SIDE },
 }
 
+pub mod debug;
 pub mod methods;

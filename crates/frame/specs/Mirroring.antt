@@ -13,18 +13,18 @@ use Rattle.frame.specs.Laws.{Keeps}
 use Rattle.frame.specs.Placing.{steps_kept}
 use Rattle.frame.specs.Frames.{mirrored, flipped}
 
-mirrored_twice : (p : Place) → mirrored (mirrored p) ≡ p
+pub mirrored_twice : (p : Place) → mirrored (mirrored p) ≡ p
 unfolding mirrored
 mirrored_twice p = square_path _ p refl (omega arith)
 
-flipped_twice : (h : Heading) → flipped (flipped h) ≡ h
+pub flipped_twice : (h : Heading) → flipped (flipped h) ≡ h
 unfolding flipped
 flipped_twice North = refl
 flipped_twice East = refl
 flipped_twice South = refl
 flipped_twice West = refl
 
-mirrored_together : (p q : Place) → megacell_of p ≡ megacell_of q → megacell_of (mirrored p) ≡ megacell_of (mirrored q)
+pub mirrored_together : (p q : Place) → megacell_of p ≡ megacell_of q → megacell_of (mirrored p) ≡ megacell_of (mirrored q)
 unfolding mirrored megacell_of
 mirrored_together p q e =
     let r : p.row / 2 ≡ q.row / 2 = ap (λ (m : Megacell). m.row) e in
@@ -45,7 +45,7 @@ moves p q East e = omega arith
 moves p q South e = omega arith
 moves p q West e = omega arith
 
-mirrored_steps : (p : Place) (h : Heading) → beside (mirrored p) (flipped h) ≡ option_map mirrored (beside p h)
+pub mirrored_steps : (p : Place) (h : Heading) → beside (mirrored p) (flipped h) ≡ option_map mirrored (beside p h)
 mirrored_steps = steps_kept mirrored flipped edges moves
 
 pub mirror_keeps : Keeps mirrored mirrored flipped flipped

@@ -15,36 +15,36 @@ use Rattle.frame.specs.Placing.{steps_kept}
 use Rattle.frame.specs.Repeating.{times_keep}
 use Rattle.frame.specs.Frames.{quarter, unquarter, times}
 
-quarter_undone : (p : Place) → unquarter (quarter p) ≡ p
+pub quarter_undone : (p : Place) → unquarter (quarter p) ≡ p
 unfolding quarter unquarter
 quarter_undone p = square_path _ p (omega arith) refl
 
-unquarter_undone : (p : Place) → quarter (unquarter p) ≡ p
+pub unquarter_undone : (p : Place) → quarter (unquarter p) ≡ p
 unfolding quarter unquarter
 unquarter_undone p = square_path _ p refl (omega arith)
 
-right_undone : (h : Heading) → left (right h) ≡ h
+pub right_undone : (h : Heading) → left (right h) ≡ h
 unfolding left right
 right_undone North = refl
 right_undone East = refl
 right_undone South = refl
 right_undone West = refl
 
-left_undone : (h : Heading) → right (left h) ≡ h
+pub left_undone : (h : Heading) → right (left h) ≡ h
 unfolding left right
 left_undone North = refl
 left_undone East = refl
 left_undone South = refl
 left_undone West = refl
 
-quarter_together : (p q : Place) → megacell_of p ≡ megacell_of q → megacell_of (quarter p) ≡ megacell_of (quarter q)
+pub quarter_together : (p q : Place) → megacell_of p ≡ megacell_of q → megacell_of (quarter p) ≡ megacell_of (quarter q)
 unfolding quarter megacell_of
 quarter_together p q e =
     let r : p.row / 2 ≡ q.row / 2 = ap (λ (m : Megacell). m.row) e in
     let c : p.column / 2 ≡ q.column / 2 = ap (λ (m : Megacell). m.column) e in
     square_path _ _ c (omega arith)
 
-unquarter_together : (p q : Place) → megacell_of p ≡ megacell_of q → megacell_of (unquarter p) ≡ megacell_of (unquarter q)
+pub unquarter_together : (p q : Place) → megacell_of p ≡ megacell_of q → megacell_of (unquarter p) ≡ megacell_of (unquarter q)
 unfolding unquarter megacell_of
 unquarter_together p q e =
     let r : p.row / 2 ≡ q.row / 2 = ap (λ (m : Megacell). m.row) e in
@@ -65,7 +65,7 @@ moves p q East e = omega arith
 moves p q South e = omega arith
 moves p q West e = omega arith
 
-quarter_steps : (p : Place) (h : Heading) → beside (quarter p) (right h) ≡ option_map quarter (beside p h)
+pub quarter_steps : (p : Place) (h : Heading) → beside (quarter p) (right h) ≡ option_map quarter (beside p h)
 quarter_steps = steps_kept quarter right edges moves
 
 pub quarters_keep : (n : ℕ) → Keeps (times n quarter) (times n unquarter) (times n right) (times n left)

@@ -24,17 +24,17 @@ unfolding times
 inside zero f a = refl
 inside (suc n) f a = ap f (inside n f a)
 
-times_undone : {A : Type 0} (n : ℕ) (f g : A → A) → ((a : A) → g (f a) ≡ a) → (a : A) → times n g (times n f a) ≡ a
+pub times_undone : {A : Type 0} (n : ℕ) (f g : A → A) → ((a : A) → g (f a) ≡ a) → (a : A) → times n g (times n f a) ≡ a
 unfolding times
 times_undone zero f g e a = refl
 times_undone (suc n) f g e a = ap g (ap (times n g) (sym (inside n f a)) ∙ times_undone n f g e (f a)) ∙ e a
 
-times_together : (n : ℕ) (f : Place → Place) → ((p q : Place) → megacell_of p ≡ megacell_of q → megacell_of (f p) ≡ megacell_of (f q)) → (p q : Place) → megacell_of p ≡ megacell_of q → megacell_of (times n f p) ≡ megacell_of (times n f q)
+pub times_together : (n : ℕ) (f : Place → Place) → ((p q : Place) → megacell_of p ≡ megacell_of q → megacell_of (f p) ≡ megacell_of (f q)) → (p q : Place) → megacell_of p ≡ megacell_of q → megacell_of (times n f p) ≡ megacell_of (times n f q)
 unfolding times
 times_together zero f t p q e = e
 times_together (suc n) f t p q e = t (times n f p) (times n f q) (times_together n f t p q e)
 
-times_steps : (n : ℕ) (f : Place → Place) (t : Heading → Heading) → ((p : Place) (h : Heading) → beside (f p) (t h) ≡ option_map f (beside p h)) → (p : Place) (h : Heading) → beside (times n f p) (times n t h) ≡ option_map (times n f) (beside p h)
+pub times_steps : (n : ℕ) (f : Place → Place) (t : Heading → Heading) → ((p : Place) (h : Heading) → beside (f p) (t h) ≡ option_map f (beside p h)) → (p : Place) (h : Heading) → beside (times n f p) (times n t h) ≡ option_map (times n f) (beside p h)
 unfolding times
 times_steps zero f t s p h = sym (option_map_id (beside p h))
 times_steps (suc n) f t s p h = s (times n f p) (times n t h) ∙ ap (option_map f) (times_steps n f t s p h) ∙ mapped_twice (times n f) f (beside p h)

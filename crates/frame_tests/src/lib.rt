@@ -4,6 +4,7 @@
 #[cfg(test)]
 mod tests {
     use board::heading::Heading;
+    use board::megacell::Megacell;
     use board::place::Place;
     use chart::slots;
     use drawn_floor::floor::{DrawnFloor, DrawnRover};
@@ -50,6 +51,19 @@ mod tests {
         assert_eq!(rt; frame.heading(Heading::East), Heading::North);
         let refusal = Numbered::try_from(8).err().map(|fault| fault.refusal());
         assert_eq!(rt; refusal, Some(Refusal::new(1, Layer::Survey, 0)));
+        Ok(())
+    }
+
+    // a place and a megacell are written under their own names
+    #[test]
+    fn debug_texts(rt: HostRuntime) -> Result<(), Fail> {
+        let place = Place::new(1, 2).ok_or("off the board")?;
+        let megacell = Megacell::new(31, 0);
+        assert!(rt; format!(in rt.alloc(); "{place:?}")?.as_str() == "Place { row: 1, column: 2 }");
+        assert!(rt;
+            format!(in rt.alloc(); "{megacell:?}")?.as_str()
+                == "Some(Megacell { row: 31, column: 0 })"
+        );
         Ok(())
     }
 

@@ -10,12 +10,7 @@ use Rattle.board.specs.Places.{megacell_of}
 use Rattle.board.specs.Steps.{beside}
 use Rattle.log_record.specs.declared.record.Record.{Record}
 use Rattle.log_record.specs.Tells.{opens, count_at}
-use Rattle.log_format.specs.declared.log.Log.{Log}
 use Rattle.log_format.specs.Log.{record_of}
-
--- the record that a log has of a megacell
-abbrev pub told_by : Log → Megacell → Option Record
-told_by log = record_of log.chain.bytes.now
 
 -- a megacell's record, if there is one, tells the side at a heading open
 abbrev pub told_open : Option Record → Heading → Bool

@@ -1,13 +1,13 @@
-use log_format::log::Log;
+use log_format::records::Records;
 use terrain::rover_on::RoverOn;
 
-/// The floor that a log tells of. Its readings are the counts of the log, in quarters of a lux.
+/// The floor that records tell of, those of a log for one. Its readings are their counts, in quarters of a lux.
 #[derive(Drop)]
-pub struct LogFloor<'a> {
-    pub log: Log<'a>,
+pub struct LogFloor<L: Records> {
+    pub log: L,
 }
 
 /// A meter rover on the floor that a log tells of. It starts where the log's header says.
-pub type LogRover<'a> = RoverOn<LogFloor<'a>>;
+pub type LogRover<L> = RoverOn<LogFloor<L>>;
 
 pub mod found;

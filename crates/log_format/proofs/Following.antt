@@ -25,6 +25,9 @@ pub accepted_header : (b : List ℕ) → accepts b ≡ true → (h : Header) × 
 unfolding refusal
 accepted_header b a = header_by_lem b (header_of b) refl a
 
+pub not_refused : (b : List ℕ) (f : LogFault) → accepts b ≡ true → Err f ≡ header_of b → ⊥
+not_refused b f a e = let k = (accepted_header b a).1 in let z : ◌≡◌ {A = ℕ} 0 1 = cc in omega arith
+
 -- and its chain stops at its end
 ended_by : (b : List ℕ) (m : Megacell) (j : ℕ) (s : Result (Option Record) LogFault) → is_none (ended_in b m j s) ≡ true → s ≡ Ok None
 ended_by b m j (Ok (Some r)) a = absurd (both_ways false refl a)

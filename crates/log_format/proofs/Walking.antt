@@ -192,5 +192,8 @@ walked_more {b} {h} {j} {from} {to} {seen} {r} g w z l s =
 pub walking_more : {b : List ℕ} {h : Header} {from to : ℕ} {seen after : List Bool} {r : Record} → header_of b ≡ Ok h → Walking b from to seen → (to ≡ 0 → ⊥) → Ok r ≡ led b h.count from to → get_or seen (number_of r.megacell) false ≡ false → after ≡ set seen (number_of r.megacell) true → Walking b to r.next after
 walking_more {b} {h} {from} {to} {seen} {after} {r} g w z l s e = subst (λ x. Walking b to r.next x) (sym e) (w.0 + 1, walked_more g w.1 z l s)
 
+pub walked_less : (seen : List Bool) (m : Megacell) → length seen ≡ 1024 → get_or seen (number_of m) false ≡ false → count_by not (set seen (number_of m) true) < count_by not seen
+walked_less seen m l s = omega (arith, one_less seen m l s)
+
 pub walking_less : {b : List ℕ} {from to : ℕ} {seen after : List Bool} (m : Megacell) → Walking b from to seen → get_or seen (number_of m) false ≡ false → after ≡ set seen (number_of m) true → count_by not after < count_by not seen
 walking_less {b} {from} {to} {seen} {after} m w s e = subst (λ x. count_by not x < count_by not seen) (sym e) (omega (arith, one_less seen m w.1.long s))

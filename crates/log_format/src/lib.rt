@@ -4,5 +4,6 @@
 
 mod chain;
 pub mod log;
+pub mod records;
 pub mod theorems;
 mod told;

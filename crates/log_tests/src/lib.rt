@@ -1,7 +1,7 @@
 //! Runs the log reader and the log floor's rover on logs whose answers are known.
 #![tactic(auto)]
 
-ghost use Rattle.std.specs.Prelude.{◌≡◌};
+ghost use Rattle.std.specs.Prelude.{◌≡◌, None, Some};
 ghost use Rattle.log_format.specs.Log.{refusal};
 ghost use Rattle.log_tests.specs.Said.{said_of};
 
@@ -24,7 +24,10 @@ mod tests {
     use board::corner::Corner;
     use board::heading::Heading;
     use board::megacell::Megacell;
+    use board::place::Place;
     use log_floor::floor::{LogFloor, LogRover};
+    use log_format::records::Records;
+    use log_record::record::Record;
     use rover::meaning::Rover;
     use std::test::Fail;
 
@@ -131,6 +134,40 @@ mod tests {
         assert!(rt; rover.place().slot() == 2 && rover.read() == 256);
         assert!(rt; !rover.look(Heading::North));
         assert!(rt; rover.moves() == 2 && rover.looks() == 3);
+        Ok(())
+    }
+
+    // records that are no log's: they tell of no megacell, and name a start
+    #[derive(Drop)]
+    struct Untold {
+        start: Place,
+    }
+
+    impl Records for Untold {
+        ghost told = { λ _ _. None };
+
+        ghost start = { λ s. Some s.start };
+
+        fn record(&self, _megacell: Megacell) -> Option<Record> {
+            None
+        }
+
+        fn start(&self) -> Place {
+            self.start
+        }
+    }
+
+    // whoever has records of his own has a rover on them
+    #[test]
+    fn rover_on_other_records(rt: HostRuntime) -> Result<(), Fail> {
+        let start = Place::new(3, 5).ok_or("off the board")?;
+        let mut rover = LogRover::new(LogFloor {
+            log: Untold { start },
+        });
+        assert!(rt; rover.place() == start && rover.read() == 0);
+        assert!(rt; !rover.look(Heading::East));
+        assert!(rt; two_steps(&mut rover, Heading::North, Heading::West));
+        assert!(rt; rover.place().slot() == 2 * 64 + 4 && rover.moves() == 2 && rover.looks() == 1);
         Ok(())
     }
 

@@ -32,12 +32,13 @@ each m n =
     let i : number_of n < 1024 = omega arith in
     tabled_at (λ i. cell_in m (width m) (i / 32) (i % 32)) 1024 (number_of n) Blocked i ∙ ap (λ k. cell_in m (width m) k ((32 * n.row + n.column) % 32)) r ∙ ap (cell_in m (width m) n.row) c
 
--- what is known of a map that is not refused, with its S at offset s
-record Accepted (m : List ℕ) (s : ℕ) : Type 0 where
-  rows : first (bad_row m) (length m) ≡ None
-  few : length m ≤ row_at m 32
-  one : first_from m 83 0 ≡ Some s
-  no_more : first_from m 83 (s + 1) ≡ None
+-- what is known of a map that is not refused: the width, the S at offset s, and what would have been refused
+pub record Accepted (m : List ℕ) (s w : ℕ) : Type 0 where
+  pub is_width : w ≡ width m
+  pub rows : first (bad_row m) (length m) ≡ None
+  pub few : length m ≤ 32 * (w + 1)
+  pub one : first_from m 83 0 ≡ Some s
+  pub no_more : first_from m 83 (s + 1) ≡ None
 
 neither : (a b : Option MapFault) → (a or_if b) ≡ None → (a ≡ None) × (b ≡ None)
 neither None b e = (refl, e)
@@ -51,13 +52,14 @@ not_extra : (b : Bool) (f : MapFault) → cond b (Some f) None ≡ None → b �
 not_extra true f e = absurd cc
 not_extra false f e = refl
 
-accepted : (m : List ℕ) (s : ℕ) → refusal m ≡ None → first_start m ≡ Some s → Accepted m s
+accepted : (m : List ℕ) (s : ℕ) → refusal m ≡ None → first_start m ≡ Some s → Accepted m s (width m)
 accepted m s r e =
     let byte = neither (length_fault m) _ r in
     let row = neither (byte_fault m) _ byte.1 in
     let extra = neither (row_fault m) _ row.1 in
     let start = neither (extra_fault m) _ extra.1 in
     record {
+      is_width = refl;
       rows = unmapped (λ k. BadRow (row_at m k)) _ extra.0;
       few = ltb-false _ _ (not_extra _ (ExtraRow (row_at m 32)) start.0);
       one = e;
@@ -74,20 +76,22 @@ only m s e f o h is = elim (cases_order o s) [
   | inr (inr l) ↦ absurd (both_ways _ (first_none_at (stands m 83 (s + 1)) (length m) o f h) (and_from (leb (s + 1) o) _ (le-leb (s + 1) o (omega arith)) (eq-eqb _ _ is)))
 ]
 
-inside : (m : List ℕ) (s : ℕ) → Accepted m s → (s / (width m + 1) < 32) × (s % (width m + 1) < width m) × (width m ≤ 32)
-inside m s a = let at = start_at m s a.one in start_inside m s a.rows a.few at.0 at.1
+pub inside : (m : List ℕ) (s w : ℕ) → Accepted m s w → (s / (w + 1) < 32) × (s % (w + 1) < w) × (w ≤ 32)
+inside m s w a =
+    let at = start_at m s a.one in
+    let few : length m ≤ 32 * (width m + 1) = subst (λ v. length m ≤ 32 * (v + 1)) a.is_width a.few in
+    subst (λ v. (s / (v + 1) < 32) × (s % (v + 1) < v) × (v ≤ 32)) (sym a.is_width) (start_inside m s a.rows few at.0 at.1)
 
 -- the S is on the board, and what is drawn lies on the map
 pub start_row : (m : List ℕ) (s : ℕ) → refusal m ≡ None → first_start m ≡ Some s → s / (width m + 1) < 32
-start_row m s r e = (inside m s (accepted m s r e)).0
+start_row m s r e = (inside m s (width m) (accepted m s r e)).0
 
 pub start_column : (m : List ℕ) (s : ℕ) → refusal m ≡ None → first_start m ≡ Some s → s % (width m + 1) < 32
-start_column m s r e = let k = inside m s (accepted m s r e) in omega arith
+start_column m s r e = let k = inside m s (width m) (accepted m s r e) in omega arith
 
-lies : (m : List ℕ) (s : ℕ) → refusal m ≡ None → first_start m ≡ Some s → LiesOn m (drawn m s)
-lies m s r e =
-    let a = accepted m s r e in
-    let k = inside m s a in
+lies : (m : List ℕ) (s : ℕ) → Accepted m s (width m) → LiesOn m (drawn m s)
+lies m s a =
+    let k = inside m s (width m) a in
     let at = squared_some _ _ _ (on_board (s / (width m + 1)) (s % (width m + 1)) k.0 (omega arith)) in
     let split : s / (width m + 1) * (width m + 1) + s % (width m + 1) ≡ s = div-add-mod' s (width m + 1) in
     let there : row_at m (drawn m s).start.row + (drawn m s).start.column ≡ s =
@@ -99,7 +103,14 @@ lies m s r e =
       each = each m;
     }
 
-pub lies_on : (m : List ℕ) (s : ℕ) (d : Drawing) → d.cells.entries ≡ cells_of m (width m) → d.start ≡ megacell_at (s / (width m + 1)) (s % (width m + 1)) → refusal m ≡ None → first_start m ≡ Some s → LiesOn m d
-lies_on m s d p q r f =
+pub lies_on : (m : List ℕ) (s w : ℕ) (d : Drawing) → Accepted m s w → d.cells.entries ≡ cells_of m w → d.start ≡ megacell_at (s / (w + 1)) (s % (w + 1)) → LiesOn m d
+lies_on m s w d a cells start =
+    let e = a.is_width in
+    let p : d.cells.entries ≡ (drawn m s).cells.entries = cells ∙ ap (cells_of m) e in
+    let q : d.start ≡ (drawn m s).start = start ∙ ap (λ v. megacell_at (s / (v + 1)) (s % (v + 1))) e in
     let same : drawn m s ≡ d = λ i. record { cells = record { entries = sym p i }; start = sym q i } in
-    subst (LiesOn m) same (lies m s r f)
+    subst (LiesOn m) same (lies m s (subst (Accepted m s) e a))
+
+-- the same of a map that is not refused
+pub drawn_lies : (m : List ℕ) (s : ℕ) (d : Drawing) → d.cells.entries ≡ cells_of m (width m) → d.start ≡ megacell_at (s / (width m + 1)) (s % (width m + 1)) → refusal m ≡ None → first_start m ≡ Some s → LiesOn m d
+drawn_lies m s d p q r f = lies_on m s (width m) d (accepted m s r f) p q

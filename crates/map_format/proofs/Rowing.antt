@@ -22,7 +22,7 @@ ends_by m w o (Some e) q h =
     }
 ends_by m w o None q h = absurd (both_ways false refl h)
 
-not_bad : (a b : Bool) → a ≡ true → a && not b ≡ false → b ≡ true
+pub not_bad : (a b : Bool) → a ≡ true → a && not b ≡ false → b ≡ true
 not_bad true true p q = refl
 not_bad true false p q = absurd (both_ways true q refl)
 not_bad false b p q = absurd (both_ways false refl p)

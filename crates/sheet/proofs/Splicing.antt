@@ -15,6 +15,9 @@ put_back at out part = put_mid at (length out - at) out part
 written_next : (s t part : List ℕ) (k : ℕ) (a b : List ℕ) → length a + length b ≤ length s → t ≡ written s a → k ≡ length a → part ≡ written (lent_from k t) b → put_back k t part ≡ written s (a ++ b)
 written_next s t part k a b h e f g = same_lists _ _ (search (rules, places)) (λ i d l. grind (arith, places))
 
+pub length_written : (s a : List ℕ) → length a ≤ length s → length (written s a) ≡ length s
+length_written s a h = search (rules, places)
+
 -- one text after another
 pub put_next : {s t part a b : List ℕ} {k n : ℕ} → Room s (a ++ b) → Put s a t k → Put (lent_from k t) b part n → Put s (a ++ b) (put_back k t part) (k + n)
 put_next {s} {t} {part} {a} {b} {k} room p q =
@@ -31,7 +34,7 @@ room_first s a b h = omega (arith, length-append a b)
 pub room_next : {s t a : List ℕ} {k : ℕ} (b : List ℕ) → Room s (a ++ b) → Put s a t k → Room (lent_from k t) b
 room_next {s} {t} {a} b h p =
     let l = length-append a b in
-    let e : length t ≡ length s = ap length p.holds ∙ search (rules, places) in
+    let e : length t ≡ length s = ap length p.holds ∙ length_written s a (omega arith) in
     simp (length-take, length-drop) (omega (arith, p.ends))
 
 -- a text by its other name

@@ -11,10 +11,10 @@ use std::io::{Read, Write};
 use survey::faults::SurveyFault;
 
 /// The bytes of a tour: the longest has four moves for each of the 1,024 megacells.
-const TOUR: usize = 4096;
+pub const TOUR: usize = 4096;
 
 /// Bytes that hold the longest sheet: its letters with an LF each 64, and two lines of at most 32 bytes.
-const SHEET: usize = 4096 + 64 + 64;
+pub const SHEET: usize = 4096 + 64 + 64;
 
 /// Writes to standard output the sheet that a survey laid out, or the line that tells its refusal. Both end well;
 /// a failed write is an error.

@@ -1,4 +1,4 @@
--- Where a look is asked for; and the steps that no rover refuses.
+-- What the table of marks makes a sweep choose, case by case; and the steps that no rover refuses.
 use Rattle.std.proofs.Common.{◌≡◌, Bool, true, false, cond, List, Some, None, Option, ap, ◌∙◌, inl, inr}
 use Rattle.board.specs.Squares.{Megacell, Place}
 use Rattle.board.specs.Headings.{left, right}
@@ -10,9 +10,18 @@ use Rattle.board.specs.declared.heading.Heading.{Heading}
 use Rattle.board.proofs.Geometry.{megacell_subcell, turn_beside, cross_beside}
 use Rattle.rover.specs.Drive.{Blocked}
 use Rattle.sweep.specs.declared.mark.Mark.{Mark}
-use Rattle.sweep.specs.declared.choice.Choice.TheVariants.{Cross, Look}
+use Rattle.sweep.specs.declared.choice.Choice.TheVariants.{Cross, Turn, Look}
 use Rattle.sweep.specs.declared.mark.Mark.TheVariants.{New, Root, Under}
 use Rattle.sweep.specs.Table.{choice, choice_by, mark_at, leads, look_if_new}
+
+pub absent_is_turned_from : (marks : List Mark) (p : Place) → beside (megacell_of p) (exit p) ≡ None → choice marks p ≡ Turn
+absent_is_turned_from marks p e = rw e
+
+pub parent_is_crossed_to : (marks : List Mark) (p : Place) (y : Megacell) → beside (megacell_of p) (exit p) ≡ Some y → leads (mark_at marks (megacell_of p)) (exit p) ≡ true → choice marks p ≡ Cross
+parent_is_crossed_to marks p y e l = rw (e, l)
+
+pub other_is_looked_at_if_new : (marks : List Mark) (p : Place) (y : Megacell) → beside (megacell_of p) (exit p) ≡ Some y → leads (mark_at marks (megacell_of p)) (exit p) ≡ false → choice marks p ≡ look_if_new (mark_at marks y) y
+other_is_looked_at_if_new marks p y e l = rw (e, l)
 
 looks_at_the_same : (k : Mark) (x y : Megacell) → look_if_new k x ≡ Look y → x ≡ y
 looks_at_the_same New x y e = cc

@@ -1,18 +1,18 @@
 ghost use Rattle.std.specs.Prelude.{◌≡◌};
-ghost use Rattle.log_record.specs.Layout.{start_of};
-ghost use Rattle.log_floor.specs.Told.{told_by, told_open, told_beside, floor_of, field_of};
+ghost use Rattle.log_floor.specs.Told.{told_open, told_beside, floor_of, field_of};
 ghost use Rattle.log_floor.specs.Passing.{same_from_both, closed_at_edge};
 
 use super::LogFloor;
 use board::heading::Heading;
 use board::megacell::Megacell;
 use board::place::Place;
+use log_format::records::Records;
 use terrain::Terrain;
 
-impl<'a> LogFloor<'a> {
+impl<L: Records> LogFloor<L> {
     /// Whether a megacell has a record, and its record tells the side at a heading open.
     fn told_open(&self, megacell: Megacell, heading: Heading) -> bool
-        ensures { result ≡ told_open (told_by self.now.log megacell) heading }
+        ensures { result ≡ told_open (L.Records.told self.now.log megacell) heading }
     {
         self.log
             .record(megacell)
@@ -21,7 +21,7 @@ impl<'a> LogFloor<'a> {
 
     /// The same of a neighbour, where there is one: the heading is the one that leads to it.
     fn told_beside(&self, neighbour: Option<Megacell>, heading: Heading) -> bool
-        ensures { result ≡ told_beside (told_by self.now.log) neighbour heading }
+        ensures { result ≡ told_beside (L.Records.told self.now.log) neighbour heading }
     {
         // By cases: with `is_some_and` the proof did not close.
         match neighbour {
@@ -31,18 +31,18 @@ impl<'a> LogFloor<'a> {
     }
 }
 
-impl<'a> Terrain for LogFloor<'a> {
+impl<L: Records> Terrain for LogFloor<L> {
     type Reading = u16;
 
-    ghost floor = { λ s. floor_of (told_by s.log) };
+    ghost floor = { λ s. floor_of (L.Records.told s.log) };
 
-    ghost field = { λ s. field_of (told_by s.log) };
+    ghost field = { λ s. field_of (L.Records.told s.log) };
 
-    ghost start = { λ s. start_of s.log.chain.bytes.now };
+    ghost start = { λ s. L.Records.start s.log };
 
-    ghost sides = { λ s. same_from_both (told_by s.log) };
+    ghost sides = { λ s. same_from_both (L.Records.told s.log) };
 
-    ghost edge = { λ s. closed_at_edge (told_by s.log) };
+    ghost edge = { λ s. closed_at_edge (L.Records.told s.log) };
 
     #[tactic(auto, unfolding(crate::specs::Told::floor_of))]
     fn is_open(&self, megacell: Megacell, heading: Heading) -> bool {

@@ -5,6 +5,7 @@ ghost use Rattle.log_format.specs.Log.{refusal, record_of, Reaching};
 
 use super::Log;
 use crate::chain::Chain;
+use crate::records::Records;
 use board::megacell::Megacell;
 use board::place::Place;
 use log_record::faults::LogFault;
@@ -38,6 +39,21 @@ impl<'a> Log<'a> {
         ensures { start_of self.now.chain.bytes.now ≡ Some result }
     {
         self.chain.header.start
+    }
+}
+
+/// An accepted log tells what its bytes hold.
+impl<'a> Records for Log<'a> {
+    ghost told = { λ s. record_of s.chain.bytes.now };
+
+    ghost start = { λ s. start_of s.chain.bytes.now };
+
+    fn record(&self, megacell: Megacell) -> Option<Record> {
+        Log::record(self, megacell)
+    }
+
+    fn start(&self) -> Place {
+        Log::start(self)
     }
 }
 

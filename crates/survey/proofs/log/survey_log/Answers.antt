@@ -6,6 +6,7 @@ use Rattle.frame.specs.Numbered.{frame_of, place_seen, place_below, heading_belo
 use Rattle.framed.specs.Seen.{seen_floor, seen_field}
 use Rattle.log_record.specs.declared.faults.LogFault.{LogFault}
 use Rattle.log_record.specs.Layout.{start_of}
+use Rattle.log_format.specs.declared.log.Log.{Log}
 use Rattle.log_floor.specs.declared.floor.LogFloor.{LogFloor}
 use Rattle.log_floor.specs.Told.{floor_of_log, field_of_log}
 use Rattle.survey.specs.Logs.{LogAnswered}
@@ -21,7 +22,7 @@ returns c =
     λ b f. Surveys (seen_floor (place_below f) (heading_below f) (floor_of_log b)) (seen_field (place_below f) (field_of_log b)) (place_seen f c.new-below.result.place) before after r in
     let framed = c.in_ok-frame.ensures in
     let read = c.in_ok-log.ensures.is in
-    let held : c.new-below.result.terrain.log.chain.bytes.now ≡ c.args.bytes.now = ap (λ (f : LogFloor). f.log.chain.bytes.now) c.new-below.ensures.terrain ∙ read.0 in
+    let held : c.new-below.result.terrain.log.chain.bytes.now ≡ c.args.bytes.now = ap (λ (f : LogFloor Log). f.log.chain.bytes.now) c.new-below.ensures.terrain ∙ read.0 in
     record {
       unframed = λ h. absurd (omega (arith, framed.0));
       framed = λ h.
