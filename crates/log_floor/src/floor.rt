@@ -7,7 +7,7 @@ pub struct LogFloor<L: Records> {
     pub log: L,
 }
 
-/// A meter rover on the floor that a log tells of. It starts where the log's header says.
+/// A meter rover on the floor that records tell of. It starts where they say; those of a log, where its header says.
 pub type LogRover<L> = RoverOn<LogFloor<L>>;
 
 pub mod found;
